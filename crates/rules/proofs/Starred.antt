@@ -1,0 +1,40 @@
+-- Every row of the table of starred runs holds: one test, which antt computes over the whole table, and the law that turns it into the claim for
+-- each row. Assumes nothing.
+use mathlib.Core.Bool.{Bool, true, false, _&&_}
+use mathlib.Core.List.{List, [], _∷_, flatten, zipWith}
+use lib.Dec.{T}
+use Rattle.rules.specs.Size.{inRange, links, linkNumber}
+use Rattle.rules.specs.Pool.{fresh}
+use Rattle.rules.specs.View.{oldIn, allLogs, loggedOld, viewValue}
+use Rattle.rules.specs.Reply.{refusalNumber, number, value}
+use Rattle.rules.specs.Worker.{firstFree, chosen, makes, moves, drops, loads, added, logged, snooped, stores}
+use Rattle.rules.specs.Collect.{phaseAfter, onward, opens, snoops, madeBy, takes, clears, heldBy, scans, falls, rises, counted, counts}
+use Rattle.rules.specs.Collect.{unchangedFrom, passes, firstPassing, reclaimed, emptied, emptiedFrom, frees, closes, reclaim, reclaims, phases, collects}
+use Rattle.rules.specs.Outcome.{noneFree, logFull, refusals, decide, does, outcome, start, answers, after, freeMarks, freeRecords}
+use Rattle.rules.specs.Sound.{Each}
+use Rattle.rules.specs.Starred.{Row, doneFrom, runs, samePairs, sees, seesAll, holds}
+
+abbrev every : List Row → Bool
+every [] = true
+every (r ∷ rows) = holds r && every rows
+
+and-left : (a b : Bool) → T (a && b) → T a
+and-left true b t = tt
+and-left false b t = t
+
+and-right : (a b : Bool) → T (a && b) → T b
+and-right true b t = t
+and-right false b t = absurd t
+
+-- the test over the whole table
+computed : T (every runs)
+unfolding inRange links linkNumber fresh flatten zipWith oldIn allLogs loggedOld viewValue refusalNumber number value firstFree chosen makes moves drops loads added logged snooped stores phaseAfter onward opens snoops madeBy takes clears heldBy scans falls rises counted counts unchangedFrom passes firstPassing reclaimed emptied emptiedFrom frees closes reclaim reclaims phases collects noneFree logFull refusals decide does outcome start answers after freeMarks freeRecords doneFrom runs samePairs sees seesAll holds
+computed = tt
+
+each : (rows : List Row) → T (every rows) → Each (λ r. T (holds r)) rows
+each [] t = tt
+each (r ∷ rows) t = (and-left (holds r) (every rows) t, each rows (and-right (holds r) (every rows) t))
+
+-- every row of the table holds
+pub every-run-holds : Each (λ r. T (holds r)) runs
+every-run-holds = each runs computed

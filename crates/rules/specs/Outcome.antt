@@ -1,0 +1,115 @@
+-- What a call answers and what it leaves: the refusals in document 01's order, the one function `outcome`, and a run from the fresh pool.
+--     Test, refusals, decide      the refusals of an event, in their order
+--     does                        what an event does where nothing refuses it
+--     outcome                     from sizes, pool and event to answer and pool
+--     start                       a pool made fresh by its sizes
+--     answers, after              a run from a pool: its answers, and the pool at its end
+--     freeRecords                 how many records are free
+-- Refusal 1 for a lent table's length, and 2, belong to the call on lent tables, which asks for them before it does what `outcome` says. Assumes nothing.
+use Prim.Native.Nat.{ℕ, zero, suc}
+use mathlib.Core.Bool.{Bool, true, false, cond, not, _&&_}
+use mathlib.Core.List.{List, [], _∷_}
+use lib.Dec.{eqb, ltb, leb}
+use lib.ListN.{length}
+use Rattle.rules.specs.declared.Sizes.{Sizes}
+use Rattle.rules.specs.declared.Event.{Event}
+use Rattle.rules.specs.declared.Event.the-variants.{Make, Move, Drop, Load, Store, Collect}
+use Rattle.rules.specs.declared.Refusal.{Refusal}
+use Rattle.rules.specs.declared.Refusal.the-variants.{WrongSize, NoSuch, HoldsNone, NoneFree, LogFull}
+use Rattle.rules.specs.declared.Answer.{Answer}
+use Rattle.rules.specs.declared.Answer.the-variants.{Fresh, Refused}
+use Rattle.rules.specs.Size.{inRange, links, linkNumber}
+use Rattle.rules.specs.Pool.{Pool, registerAt, logAt, fresh}
+use Rattle.rules.specs.Reply.{Outcome}
+use Rattle.rules.specs.Worker.{chosen, mustLog, makes, moves, drops, loads, stores}
+use Rattle.rules.specs.Collect.{collects}
+
+-- ---- the refusals
+
+-- a refusal is given where its test is true and no test before it is
+pub record Test : Type 0 where
+  pub when : Bool
+  pub why : Refusal
+
+-- "3: no such worker, register or link"
+abbrev pub noSuch : Bool → Test
+noSuch here = record { when = not here; why = NoSuch }
+
+abbrev pub hasWorker : Sizes → ℕ → Bool
+hasWorker s w = ltb w (s .w)
+
+abbrev pub hasRegister : Sizes → ℕ → Bool
+hasRegister s r = ltb r (s .r)
+
+abbrev pub hasLink : Sizes → ℕ → Bool
+hasLink s f = ltb f (s .k)
+
+-- "4: load or store through a register that holds none"
+abbrev pub holdsNone : Pool → ℕ → ℕ → Test
+holdsNone p w q = record { when = eqb (registerAt p w q .0) 0; why = HoldsNone }
+
+-- "5: make, and no record is free"
+unfoldable pub noneFree : Pool → Test
+noneFree p = record { when = eqb (chosen p .0) 0; why = NoneFree }
+
+-- "6: store that must log, and the worker's log has S entries"
+unfoldable pub logFull : Sizes → Pool → ℕ → ℕ → ℕ → Test
+logFull s p w q f =
+    record { when = mustLog p (linkNumber s (registerAt p w q) f) && leb (links s) (length (logAt p w)); why = LogFull }
+
+-- "Order for an event: .. 3, 4, then 5 or 6."
+unfoldable pub refusals : Sizes → Pool → Event → List Test
+refusals s p (Make w r) = noSuch (hasWorker s w && hasRegister s r) ∷ noneFree p ∷ []
+refusals s p (Move w r q) = noSuch (hasWorker s w && hasRegister s r && hasRegister s q) ∷ []
+refusals s p (Drop w r) = noSuch (hasWorker s w && hasRegister s r) ∷ []
+refusals s p (Load w r q f) = noSuch (hasWorker s w && hasRegister s r && hasRegister s q && hasLink s f) ∷ holdsNone p w q ∷ []
+refusals s p (Store w q f r) =
+    noSuch (hasWorker s w && hasRegister s q && hasLink s f && hasRegister s r) ∷ holdsNone p w q ∷ logFull s p w q f ∷ []
+refusals s p Collect = []
+
+-- "A refused event has the value 0 and changes nothing."
+abbrev pub refused : Refusal → Pool → Outcome
+refused why p = record { answer = Refused why; pool = p }
+
+-- the first refusal whose test is true, else what is done
+unfoldable pub decide : Pool → List Test → Outcome → Outcome
+decide p [] done = done
+decide p (t ∷ tests) done = cond (t .when) (refused (t .why) p) (decide p tests done)
+
+-- ---- an event
+
+unfoldable pub does : Sizes → Pool → Event → Outcome
+does s p (Make w r) = makes w r p
+does s p (Move w r q) = moves w r q p
+does s p (Drop w r) = drops w r p
+does s p (Load w r q f) = loads s w r q f p
+does s p (Store w q f r) = stores s w q f r p
+does s p Collect = collects s p
+
+unfoldable pub outcome : Sizes → Pool → Event → Outcome
+outcome s p e = decide p (refusals s p e) (does s p e)
+
+-- ---- a run
+
+-- "An accepted sizes field makes the pool fresh, whatever the tables held." "1: a size is out of its range"
+unfoldable pub start : Sizes → Pool → Outcome
+start s p = decide p (record { when = not (inRange s); why = WrongSize } ∷ []) (record { answer = Fresh; pool = fresh s })
+
+-- the answers of a list of events, one after the other, from a pool
+unfoldable pub answers : Sizes → Pool → List Event → List Answer
+answers s p [] = []
+answers s p (e ∷ events) = let o = outcome s p e in o .answer ∷ answers s (o .pool) events
+
+-- the pool after them
+unfoldable pub after : Sizes → Pool → List Event → Pool
+after s p [] = p
+after s p (e ∷ events) = after s (outcome s p e .pool) events
+
+-- "how many records are free"
+unfoldable pub freeMarks : List Bool → ℕ
+freeMarks [] = zero
+freeMarks (true ∷ used) = freeMarks used
+freeMarks (false ∷ used) = suc (freeMarks used)
+
+unfoldable pub freeRecords : Pool → ℕ
+freeRecords p = freeMarks (p .records .used)

@@ -1,0 +1,26 @@
+-- "Sizes" of document 01.
+--     inRange      the sizes are in range
+--     links        S, the number of links
+--     linkNumber   the number of link f of record a: the one way from a record number to a link number
+-- Assumes nothing.
+use Prim.Native.Nat.{ℕ, _+_, _-_, _*_}
+use mathlib.Core.Bool.{Bool, _&&_}
+use lib.Dec.{leb}
+use Rattle.rules.specs.declared.Sizes.{Sizes}
+use Rattle.rules.specs.declared.RecordNumber.{RecordNumber}
+use Rattle.rules.specs.declared.LinkNumber.{LinkNumber}
+
+abbrev pub between : ℕ → ℕ → ℕ → Bool
+between low high x = leb low x && leb x high
+
+-- "N records 1..1024, K links in each 1..8, W workers 1..8, R registers per worker 1..16."
+unfoldable pub inRange : Sizes → Bool
+inRange s = between 1 1024 (s .n) && between 1 8 (s .k) && between 1 8 (s .w) && between 1 16 (s .r)
+
+-- "There are S = N x K links."
+unfoldable pub links : Sizes → ℕ
+links s = s .n * s .k
+
+-- "Link f of record a has the number (a-1) x K + f."
+unfoldable pub linkNumber : Sizes → RecordNumber → ℕ → LinkNumber
+linkNumber s a f = record { 0 = (a .0 - 1) * s .k + f }

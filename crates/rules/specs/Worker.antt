@@ -1,0 +1,81 @@
+-- "Worker events" of document 01: what each does where nothing refuses it (the refusals are in Outcome).
+--     firstFree, chosen                           the record that a make takes
+--     makes, moves, drops, loads                  these events
+--     mustLog, added, logged, snooped, stores     a store, and its parts
+-- Assumes nothing.
+use Prim.Native.Nat.{ℕ, suc, _+_}
+use mathlib.Core.Bool.{Bool, true, false, cond, not}
+use mathlib.Core.List.{List, [], _∷_, _++_}
+use Rattle.rules.specs.declared.Sizes.{Sizes}
+use Rattle.rules.specs.declared.RecordNumber.{RecordNumber}
+use Rattle.rules.specs.declared.LinkNumber.{LinkNumber}
+use Rattle.rules.specs.declared.Answer.the-variants.{Made, Moved, Dropped, Loaded, Stored}
+use Rattle.rules.specs.Size.{linkNumber}
+use Rattle.rules.specs.Pool.{Pool, none, withRecord, valueAt, changedAt, registerAt, snoopsAt, logAt}
+use Rattle.rules.specs.Pool.{withUsed, withHeld, withMaker, withValue, withChanged, withRegister, withLog}
+use Rattle.rules.specs.Reply.{Outcome}
+
+-- ---- make
+
+-- the first record that is free, where the marks are those of the records from a on; none if none is
+unfoldable pub firstFree : ℕ → List Bool → RecordNumber
+firstFree a [] = none
+firstFree a (false ∷ used) = record { 0 = a }
+firstFree a (true ∷ used) = firstFree (suc a) used
+
+-- "the lowest free record"
+unfoldable pub chosen : Pool → RecordNumber
+chosen p = firstFree 1 (p .records .used)
+
+-- "make w r: the lowest free record becomes used, its maker is w + 1, register r holds it. Nothing else of it is touched. Answer: its number."
+unfoldable pub makes : ℕ → ℕ → Pool → Outcome
+makes w r p =
+    let a = chosen p in
+    record {
+      answer = Made a;
+      pool =
+          withRegister w r a
+          (withMaker (withRecord (p .records .maker) (a .0) (w + 1)) (withUsed (withRecord (p .records .used) (a .0) true) p));
+    }
+
+-- ---- move, drop, load
+
+-- "move w r q: register r takes what q holds. Answer: that value."
+unfoldable pub moves : ℕ → ℕ → ℕ → Pool → Outcome
+moves w r q p = let a = registerAt p w q in record { answer = Moved a; pool = withRegister w r a p }
+
+-- "drop w r: register r becomes none. Answer 0."
+unfoldable pub drops : ℕ → ℕ → Pool → Outcome
+drops w r p = record { answer = Dropped; pool = withRegister w r none p }
+
+-- "load w r q f: register r takes link f of the record in q. Answer: that value."
+unfoldable pub loads : Sizes → ℕ → ℕ → ℕ → ℕ → Pool → Outcome
+loads s w r q f p =
+    let a = valueAt p (linkNumber s (registerAt p w q) f) in
+    record { answer = Loaded a; pool = withRegister w r a p }
+
+-- ---- store
+
+-- "if the link's changed mark is off"
+abbrev pub mustLog : Pool → LinkNumber → Bool
+mustLog p l = not (changedAt p l)
+
+-- "(link, its value) is added to w's log and the mark goes on"
+unfoldable pub added : ℕ → LinkNumber → Pool → Pool
+added w l p = withChanged l true (withLog w (logAt p w ++ (record { link = l; old = valueAt p l } ∷ [])) p)
+
+-- "if the link's changed mark is off, (link, its value) is added to w's log and the mark goes on"
+unfoldable pub logged : ℕ → LinkNumber → Pool → Pool
+logged w l p = cond (mustLog p l) (added w l p) p
+
+-- "if w snoops and the value is not none, that record is marked held"
+unfoldable pub snooped : ℕ → RecordNumber → Pool → Pool
+snooped w a p = cond (snoopsAt p w) (withHeld (withRecord (p .records .held) (a .0) true) p) p
+
+-- "store w q f r: .. the link takes what r holds (none is allowed); .. Answer: the value overwritten. A store of an equal value is logged like any
+-- other."
+unfoldable pub stores : Sizes → ℕ → ℕ → ℕ → ℕ → Pool → Outcome
+stores s w q f r p =
+    let l = linkNumber s (registerAt p w q) f in
+    let a = registerAt p w r in
+    record { answer = Stored (valueAt p l); pool = snooped w a (withValue l a (logged w l p)) }
