@@ -2,6 +2,7 @@
 --     phaseAfter, onward             how a step moves the collector's record on
 --     opens, snoops, takes, clears, scans, counts, reclaims     the step of each phase, from phase 0 to 6
 --     madeBy, heldBy, falls, rises   what the steps of phases 2, 4 and 5 do to the records
+--     entryHere                      the history entry at the position
 --     passes, reclaimed              what phase 6 takes
 --     emptied, frees, closes         what phase 6 then does
 --     phases, collects               the list of the phases, and the one collect event
@@ -72,9 +73,12 @@ takes s p =
     let w = p .collector .position in
     stepped (onward (s .w) (madeBy w (withLog w [] (withHistory (p .history ++ logAt p w) p))))
 
--- the history entry at the position
+-- the history entry at the position; a sound pool has one there in phases 3 and 5
+abbrev pub noEntry : Entry
+noEntry = record { link = record { 0 = 0 }; old = none }
+
 abbrev pub entryHere : Pool → Entry
-entryHere p = getD (p .history) (p .collector .position) (record { link = record { 0 = 0 }; old = none })
+entryHere p = getD (p .history) (p .collector .position) noEntry
 
 -- "Phase 3: changed mark off for the link of the history entry at the position. After the last, phase 4."
 unfoldable pub clears : Sizes → Pool → Outcome

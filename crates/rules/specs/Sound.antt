@@ -1,6 +1,6 @@
 -- "A sound pool" of document 01, each clause a named part of `Sound`.
 --     Each                      something holds of each element of a list
---     Shaped                    every list has its length
+--     ShapedRecords, ShapedLinks, ShapedWorkers, Shaped     every list has its length
 --     positions                 how many positions the phase has
 --     uncleared, uncounted      the entries of the history that are not yet cleared, not yet counted
 --     outstanding               all logs together with the history not yet cleared
@@ -18,7 +18,7 @@ use Rattle.rules.specs.declared.Sizes.{Sizes}
 use Rattle.rules.specs.declared.RecordNumber.{RecordNumber}
 use Rattle.rules.specs.declared.LinkNumber.{LinkNumber}
 use Rattle.rules.specs.Size.{links}
-use Rattle.rules.specs.Pool.{Entry, Pool, countAt, makerAt, valueAt, changedAt, registersAt, registerAt, logAt}
+use Rattle.rules.specs.Pool.{Entry, Records, Links, Workers, Pool, countAt, makerAt, valueAt, changedAt, registerAt, logAt}
 use Rattle.rules.specs.View.{bit, times, oldIn, allLogs, viewValue}
 
 abbrev pub Each : {A : Type 0} → (A → Type 0) → List A → Type 0
@@ -27,19 +27,30 @@ Each P (x ∷ xs) = P x × Each P xs
 
 -- ---- the shape
 
--- "lent tables of 16-bit numbers whose lengths must be exact", N records, S links, W workers with R registers each
+-- "lent tables .. whose lengths must be exact": N of each thing of a record
+pub record ShapedRecords (s : Sizes) (r : Records) : Type 0 where
+  pub used : length (r .used) ≡ s .n
+  pub count : length (r .count) ≡ s .n
+  pub held : length (r .held) ≡ s .n
+  pub candidate : length (r .candidate) ≡ s .n
+  pub maker : length (r .maker) ≡ s .n
+
+-- S of each thing of a link
+pub record ShapedLinks (s : Sizes) (l : Links) : Type 0 where
+  pub value : length (l .value) ≡ links s
+  pub changed : length (l .changed) ≡ links s
+
+-- W of each thing of a worker, and R registers in each
+pub record ShapedWorkers (s : Sizes) (ws : Workers) : Type 0 where
+  pub registers : length (ws .registers) ≡ s .w
+  pub each : (w : ℕ) → w < s .w → length (getD (ws .registers) w []) ≡ s .r
+  pub snoop : length (ws .snoop) ≡ s .w
+  pub log : length (ws .log) ≡ s .w
+
 pub record Shaped (s : Sizes) (p : Pool) : Type 0 where
-  pub used : length (p .records .used) ≡ s .n
-  pub count : length (p .records .count) ≡ s .n
-  pub held : length (p .records .held) ≡ s .n
-  pub candidate : length (p .records .candidate) ≡ s .n
-  pub maker : length (p .records .maker) ≡ s .n
-  pub value : length (p .links .value) ≡ links s
-  pub changed : length (p .links .changed) ≡ links s
-  pub workers : length (p .workers .registers) ≡ s .w
-  pub registers : (w : ℕ) → w < s .w → length (registersAt p w) ≡ s .r
-  pub snoop : length (p .workers .snoop) ≡ s .w
-  pub log : length (p .workers .log) ≡ s .w
+  pub records : ShapedRecords s (p .records)
+  pub links : ShapedLinks s (p .links)
+  pub workers : ShapedWorkers s (p .workers)
 
 -- ---- the phase
 
@@ -111,7 +122,7 @@ pub record Sound (s : Sizes) (p : Pool) : Type 0 where
   pub log-length : (w : ℕ) → length (logAt p w) ≤ links s
   pub history-length : length (p .history) ≤ links s
   -- "no link twice in the history"
-  pub once : (l : LinkNumber) → times l (p .history) ≤ 1
+  pub once : (l : LinkNumber) → l .0 < links s → times l (p .history) ≤ 1
   -- "a link whose mark is on stands exactly once among all logs together with the history not yet cleared"
   pub marked : (l : LinkNumber) → l .0 < links s → changedAt p l ≡ true → times l (outstanding p) ≡ 1
   -- "a link whose mark is off stands nowhere there"

@@ -1,0 +1,174 @@
+-- Laws of the entries that stand for a link.
+--     times-append, oldIn-append      of two lists of entries, one after the other
+--     oldIn-absent, oldIn-present, oldIn-else     where no entry is for the link, and where one is
+--     times-one, times-none, times-cons, oldIn-here, oldIn-there     the first entry is for the link, or for another
+--     times-logs                      all logs, where one of them is written
+--     oldIn-without, oldIn-first, oldIn-more, oldIn-added     the look-up in all logs, where one of them is emptied or gets an entry more
+--     oldIn-low                       a bound on the old values
+--     times-from                      the entries of a list from a place on
+-- Assumes nothing.
+use Prim.Native.Nat.{ℕ, zero, suc, _+_, _≤_, _<_}
+use mathlib.Core.Path.{_≡_, refl, sym, ap, _∙_}
+use mathlib.Core.Logic.{⊎-elim}
+use mathlib.Core.Bool.{Bool, true, false, cond}
+use mathlib.Core.List.{List, [], _∷_, _++_, flatten}
+use native.Mathlib.Omega.{arith}
+use native.Mathlib.Nat.{eq-zero-or-pos}
+use borrow.Author.Tests.{eq-eqb, ne-eqb}
+use lib.Dec.{eqb}
+use lib.ListN.{length, getD, take, drop, set, take-append-drop}
+use lib.Seq.{drop-cons}
+use Rattle.rules.specs.declared.Sizes.{Sizes}
+use Rattle.rules.specs.declared.LinkNumber.{LinkNumber}
+use Rattle.rules.specs.declared.RecordNumber.{RecordNumber}
+use Rattle.rules.specs.Pool.{Entry}
+use Rattle.rules.specs.View.{bit, standsFor, times, oldIn}
+use Rattle.rules.specs.Sound.{Each, EntryInRange}
+use Rattle.soundness.proofs.Lists.{flatten-at, flatten-set}
+
+-- ---- one list after another
+
+pub times-append : (l : LinkNumber) (xs ys : List Entry) → times l (xs ++ ys) ≡ times l xs + times l ys
+unfolding times
+times-append l [] ys = omega arith
+times-append l (e ∷ xs) ys = omega (arith, times-append l xs ys)
+
+pub oldIn-append : (l : LinkNumber) (xs ys : List Entry) (a : RecordNumber) → oldIn l (xs ++ ys) a ≡ oldIn l xs (oldIn l ys a)
+unfolding oldIn
+oldIn-append l [] ys a = refl
+oldIn-append l (e ∷ xs) ys a = ap (cond (standsFor l e) (e .old)) (oldIn-append l xs ys a)
+
+-- ---- no entry for the link, or one
+
+cond-off : (b : Bool) (x y : RecordNumber) → bit b ≡ 0 → cond b x y ≡ y
+cond-off true x y h = absurd (omega arith)
+cond-off false x y h = refl
+
+cond-else : (b : Bool) (x : RecordNumber) {y z : RecordNumber} → (bit b ≡ 0 → y ≡ z) → cond b x y ≡ cond b x z
+cond-else true x h = refl
+cond-else false x h = h refl
+
+pub oldIn-absent : (l : LinkNumber) (xs : List Entry) (a : RecordNumber) → times l xs ≡ 0 → oldIn l xs a ≡ a
+unfolding oldIn times
+oldIn-absent l [] a h = refl
+oldIn-absent l (e ∷ xs) a h = cond-off (standsFor l e) (e .old) (oldIn l xs a) (omega arith) ∙ oldIn-absent l xs a (omega arith)
+
+pub oldIn-present : (l : LinkNumber) (xs : List Entry) (a b : RecordNumber) → 0 < times l xs → oldIn l xs a ≡ oldIn l xs b
+unfolding oldIn times
+oldIn-present l [] a b h = absurd (omega arith)
+oldIn-present l (e ∷ xs) a b h = cond-else (standsFor l e) (e .old) (λ (z : bit (standsFor l e) ≡ 0). oldIn-present l xs a b (omega arith))
+
+-- whatever stands behind the entries matters only where none of them is for the link
+pub oldIn-else : (l : LinkNumber) (xs : List Entry) {a b : RecordNumber} → (times l xs ≡ 0 → a ≡ b) → oldIn l xs a ≡ oldIn l xs b
+oldIn-else l xs {a} {b} h =
+    ⊎-elim (λ z. ap (oldIn l xs) (h z)) (λ (q : 0 < times l xs). oldIn-present l xs a b q) (eq-zero-or-pos (times l xs))
+
+-- ---- the first entry
+
+pub times-one : (l : LinkNumber) (e : Entry) → e .link .0 ≡ l .0 → times l (e ∷ []) ≡ 1
+unfolding times
+times-one l e h = ap (λ b. bit b + 0) (eq-eqb (e .link .0) (l .0) h)
+
+pub times-none : (l : LinkNumber) (e : Entry) → (e .link .0 ≡ l .0 → ⊥) → times l (e ∷ []) ≡ 0
+unfolding times
+times-none l e h = ap (λ b. bit b + 0) (ne-eqb (e .link .0) (l .0) h)
+
+pub times-cons : (l : LinkNumber) (e : Entry) (xs : List Entry) → times l (e ∷ xs) ≡ times l (e ∷ []) + times l xs
+times-cons l e xs = times-append l (e ∷ []) xs
+
+pub oldIn-here : (l : LinkNumber) (e : Entry) (xs : List Entry) (a : RecordNumber) → e .link .0 ≡ l .0 → oldIn l (e ∷ xs) a ≡ e .old
+unfolding oldIn
+oldIn-here l e xs a h = ap (λ b. cond b (e .old) (oldIn l xs a)) (eq-eqb (e .link .0) (l .0) h)
+
+pub oldIn-there : (l : LinkNumber) (e : Entry) (xs : List Entry) (a : RecordNumber) → (e .link .0 ≡ l .0 → ⊥) → oldIn l (e ∷ xs) a ≡ oldIn l xs a
+unfolding oldIn
+oldIn-there l e xs a h = ap (λ b. cond b (e .old) (oldIn l xs a)) (ne-eqb (e .link .0) (l .0) h)
+
+-- ---- all logs, of which one is written
+
+module _ (l : LinkNumber) (logs : List (List Entry)) (w : ℕ) (here : w < length logs) where
+  before : List Entry
+  before = flatten (take w logs)
+
+  behind : List Entry
+  behind = flatten (drop (suc w) logs)
+
+  times-at : times l (flatten logs) ≡ times l before + (times l (getD logs w []) + times l behind)
+  unfolding before behind
+  times-at =
+      ap (times l) (flatten-at logs w here)
+      ∙ times-append l before (getD logs w [] ++ behind)
+      ∙ ap (λ (n : ℕ). times l before + n) (times-append l (getD logs w []) behind)
+
+  times-set : (xs : List Entry) → times l (flatten (set logs w xs)) ≡ times l before + (times l xs + times l behind)
+  unfolding before behind
+  times-set xs =
+      ap (times l) (flatten-set logs w xs here)
+      ∙ times-append l before (xs ++ behind)
+      ∙ ap (λ (n : ℕ). times l before + n) (times-append l xs behind)
+
+  pub times-logs : (xs : List Entry) → times l (flatten (set logs w xs)) + times l (getD logs w []) ≡ times l (flatten logs) + times l xs
+  times-logs xs = omega (arith, times-at, times-set xs)
+
+  old-at : (a : RecordNumber) → oldIn l (flatten logs) a ≡ oldIn l before (oldIn l (getD logs w []) (oldIn l behind a))
+  unfolding before behind
+  old-at a =
+      ap (λ es. oldIn l es a) (flatten-at logs w here)
+      ∙ oldIn-append l before (getD logs w [] ++ behind) a
+      ∙ ap (oldIn l before) (oldIn-append l (getD logs w []) behind a)
+
+  old-set : (xs : List Entry) (a : RecordNumber) → oldIn l (flatten (set logs w xs)) a ≡ oldIn l before (oldIn l xs (oldIn l behind a))
+  unfolding before behind
+  old-set xs a =
+      ap (λ es. oldIn l es a) (flatten-set logs w xs here)
+      ∙ oldIn-append l before (xs ++ behind) a
+      ∙ ap (oldIn l before) (oldIn-append l xs behind a)
+
+  -- a log that says nothing of the link is emptied
+  pub oldIn-without : (a : RecordNumber) → times l (getD logs w []) ≡ 0 → oldIn l (flatten (set logs w [])) a ≡ oldIn l (flatten logs) a
+  unfolding oldIn
+  oldIn-without a h =
+      old-set [] a ∙ ap (oldIn l before) (sym (oldIn-absent l (getD logs w []) (oldIn l behind a) h)) ∙ sym (old-at a)
+
+  -- where one entry of all logs is for the link, and it stands in this log, the look-up in this log finds it
+  pub oldIn-first : (a b : RecordNumber) → times l (flatten logs) ≤ 1 → 0 < times l (getD logs w []) → oldIn l (flatten logs) a ≡ oldIn l (getD logs w []) b
+  oldIn-first a b h k =
+      old-at a
+      ∙ oldIn-absent l before (oldIn l (getD logs w []) (oldIn l behind a)) (omega (arith, times-at))
+      ∙ oldIn-present l (getD logs w []) (oldIn l behind a) b k
+
+  -- the log gets an entry more, for another link
+  pub oldIn-more : (e : Entry) (a : RecordNumber) → (e .link .0 ≡ l .0 → ⊥) → oldIn l (flatten (set logs w (getD logs w [] ++ (e ∷ [])))) a ≡ oldIn l (flatten logs) a
+  unfolding oldIn
+  oldIn-more e a h =
+      old-set (getD logs w [] ++ (e ∷ [])) a
+      ∙ ap (oldIn l before) (oldIn-append l (getD logs w []) (e ∷ []) (oldIn l behind a)
+      ∙ ap (oldIn l (getD logs w [])) (oldIn-there l e [] (oldIn l behind a) h))
+      ∙ sym (old-at a)
+
+  -- the log gets an entry more, for this link, of which no log said anything
+  pub oldIn-added : (e : Entry) (a : RecordNumber) → e .link .0 ≡ l .0 → times l (flatten logs) ≡ 0 → oldIn l (flatten (set logs w (getD logs w [] ++ (e ∷ [])))) a ≡ e .old
+  oldIn-added e a h k =
+      old-set (getD logs w [] ++ (e ∷ [])) a
+      ∙ oldIn-absent l before (oldIn l (getD logs w [] ++ (e ∷ [])) (oldIn l behind a)) (omega (arith, times-at))
+      ∙ oldIn-append l (getD logs w []) (e ∷ []) (oldIn l behind a)
+      ∙ oldIn-absent l (getD logs w []) (oldIn l (e ∷ []) (oldIn l behind a)) (omega (arith, times-at))
+      ∙ oldIn-here l e [] (oldIn l behind a) h
+
+-- ---- a bound on the old values
+
+pub oldIn-low : (s : Sizes) (l : LinkNumber) (xs : List Entry) (a : RecordNumber) → Each (EntryInRange s) xs → a .0 ≤ s .n → oldIn l xs a .0 ≤ s .n
+unfolding oldIn
+oldIn-low s l [] a h low = low
+oldIn-low s l (e ∷ xs) a h low = cond-low (standsFor l e) (h .0 .old) (oldIn-low s l xs a (h .1) low)
+  where
+    cond-low : (b : Bool) {x y : RecordNumber} → x .0 ≤ s .n → y .0 ≤ s .n → cond b x y .0 ≤ s .n
+    cond-low true hx hy = hx
+    cond-low false hx hy = hy
+
+-- ---- the entries from a place on
+
+module _ (l : LinkNumber) (xs : List Entry) (i : ℕ) where
+  -- no more of them than of all
+  pub times-from : times l (drop i xs) ≤ times l xs
+  times-from = omega (arith, sym (ap (times l) (take-append-drop i xs)) ∙ times-append l (take i xs) (drop i xs))

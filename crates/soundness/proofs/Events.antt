@@ -1,0 +1,132 @@
+-- Each worker event on a sound pool leaves a sound pool. None moves the collector's record or the history, and none changes a value that is counted.
+--     decided                an outcome is a refusal, which changes nothing, or what the event does where every test is false
+--     chosen-low             the record that a make takes is one, or none
+--     makes-sound .. stores-sound     the events where nothing refuses them
+-- Assumes nothing.
+use Prim.Native.Nat.{ℕ, zero, suc, _+_, _≤_, _<_, zero-le}
+use mathlib.Core.Path.{_≡_, refl, sym, ap, _∙_}
+use mathlib.Core.Bool.{Bool, true, false, cond}
+use mathlib.Core.List.{List, [], _∷_}
+use native.Mathlib.Omega.{arith}
+use lib.ListN.{length}
+use Rattle.rules.specs.declared.Sizes.{Sizes}
+use Rattle.rules.specs.declared.RecordNumber.{RecordNumber}
+use Rattle.rules.specs.declared.LinkNumber.{LinkNumber}
+use Rattle.rules.specs.Size.{linkNumber}
+use Rattle.rules.specs.Pool.{Pool, none, withRecord, registerAt, snoopsAt, withHeld, withValue, withRegister}
+use Rattle.rules.specs.Reply.{Outcome}
+use Rattle.rules.specs.Worker.{firstFree, chosen, makes, moves, drops, loads, mustLog, added, logged, snooped, stores}
+use Rattle.rules.specs.Outcome.{Test, refused, decide}
+use Rattle.rules.specs.Sound.{Each, Sound, uncleared, uncounted}
+use Rattle.soundness.proofs.Lists.{length-withRecord, withRecord-keeps}
+use Rattle.soundness.proofs.Core.{Core, core}
+use Rattle.soundness.proofs.Parts.{core-register, core-records}
+use Rattle.soundness.proofs.Store.{core-stored}
+use Rattle.soundness.proofs.Reclaim.{link-inside}
+use Rattle.soundness.proofs.Steps.{stays}
+
+-- ---- refused or not
+
+-- what holds of the pool before, and of the pool after where no test is true, holds of the pool after
+pub decided : (P : Pool → Type 0) (p : Pool) → P p → (tests : List Test) (done : Outcome) → (Each (λ t. t .when ≡ false) tests → P (done .pool))
+    → P (decide p tests done .pool)
+unfolding decide
+decided P p h [] done f = f tt
+decided P p h (t ∷ tests) done f = by-test (t .when) (λ e. decided P p h tests done (λ rest. f (e, rest)))
+  where
+    by-test : (b : Bool) → (b ≡ false → P (decide p tests done .pool)) → P (cond b (refused (t .why) p) (decide p tests done) .pool)
+    by-test true next = h
+    by-test false next = next refl
+
+-- ---- the record that a make takes
+
+first-free-low : (a : ℕ) (used : List Bool) → 1 ≤ a → firstFree a used .0 < a + length used
+unfolding firstFree
+first-free-low a [] h = omega arith
+first-free-low a (false ∷ used) h = omega arith
+first-free-low a (true ∷ used) h = omega (arith, first-free-low (suc a) used (omega arith))
+
+-- ---- store: what it logs moves neither the collector's record nor the history
+
+logged-collector : (w : ℕ) (l : LinkNumber) (p : Pool) → logged w l p .collector ≡ p .collector
+unfolding logged added
+logged-collector w l p = by-mark (mustLog p l)
+  where
+    by-mark : (b : Bool) → cond b (added w l p) p .collector ≡ p .collector
+    by-mark true = refl
+    by-mark false = refl
+
+logged-history : (w : ℕ) (l : LinkNumber) (p : Pool) → logged w l p .history ≡ p .history
+unfolding logged added
+logged-history w l p = by-mark (mustLog p l)
+  where
+    by-mark : (b : Bool) → cond b (added w l p) p .history ≡ p .history
+    by-mark true = refl
+    by-mark false = refl
+
+-- ---- the events
+
+module _ {s : Sizes} {p : Pool} (h : Sound s p) where
+  pub chosen-low : chosen p .0 ≤ s .n
+  unfolding chosen
+  chosen-low = omega (arith, first-free-low 1 (p .records .used) (omega arith), h .shaped .records .used)
+
+  pub makes-sound : (w r : ℕ) → w < s .w → Sound s (makes w r p .pool)
+  unfolding makes
+  makes-sound w r k =
+      stays h (makes w r p .pool) refl refl
+      (core-register
+      (core-records (core h) (withRecord (p .records .used) (chosen p .0) true) (p .records .held) (p .records .candidate)
+      (withRecord (p .records .maker) (chosen p .0) (w + 1))
+      (length-withRecord (p .records .used) (chosen p .0) true ∙ h .shaped .records .used)
+      (h .shaped .records .held)
+      (h .shaped .records .candidate)
+      (length-withRecord (p .records .maker) (chosen p .0) (w + 1) ∙ h .shaped .records .maker)
+      (λ a. withRecord-keeps (λ m. m ≤ s .w) 0 (p .records .maker) (chosen p .0) (w + 1) (omega arith) (λ j. h .makers (record { 0 = j })) a.0))
+      w
+      r
+      (chosen p)
+      chosen-low)
+
+  -- a register takes a record number
+  takes-register : (w r : ℕ) (a : RecordNumber) → a .0 ≤ s .n → Sound s (withRegister w r a p)
+  takes-register w r a low = stays h (withRegister w r a p) refl refl (core-register (core h) w r a low)
+
+  pub moves-sound : (w r q : ℕ) → Sound s (moves w r q p .pool)
+  unfolding moves
+  moves-sound w r q = takes-register w r (registerAt p w q) (h .registers w q)
+
+  pub drops-sound : (w r : ℕ) → Sound s (drops w r p .pool)
+  unfolding drops
+  drops-sound w r = takes-register w r none zero-le
+
+  pub loads-sound : (w r q f : ℕ) → Sound s (loads s w r q f p .pool)
+  unfolding loads
+  loads-sound w r q f = takes-register w r _ (h .values (linkNumber s (registerAt p w q) f))
+
+  pub stores-sound : (w q f r : ℕ) → w < s .w → f < s .k → 1 ≤ registerAt p w q .0 → Sound s (stores s w q f r p .pool)
+  unfolding stores snooped
+  stores-sound w q f r kw kf some = by-snoop (snoopsAt t w)
+    where
+      l : LinkNumber
+      l = linkNumber s (registerAt p w q) f
+
+      a : RecordNumber
+      a = registerAt p w r
+
+      t : Pool
+      t = withValue l a (logged w l p)
+
+      c : Core s t (uncleared p) (uncounted p)
+      c = core-stored (core h) l a (h .registers w r) (link-inside s (registerAt p w q) f some (h .registers w q) kf) w kw
+
+      by-snoop : (b : Bool) → Sound s (cond b (withHeld (withRecord (t .records .held) (a .0) true) t) t)
+      by-snoop true =
+          stays h (withHeld (withRecord (t .records .held) (a .0) true) t) (sym (logged-collector w l p)) (sym (logged-history w l p))
+          (core-records c (t .records .used) (withRecord (t .records .held) (a .0) true) (t .records .candidate) (t .records .maker)
+          (c .shaped .records .used)
+          (length-withRecord (t .records .held) (a .0) true ∙ c .shaped .records .held)
+          (c .shaped .records .candidate)
+          (c .shaped .records .maker)
+          (c .makers))
+      by-snoop false = stays h t (sym (logged-collector w l p)) (sym (logged-history w l p)) c

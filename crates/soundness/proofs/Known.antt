@@ -1,0 +1,83 @@
+-- What the code rests on: facts of every sound pool, each a law of its own.
+--     record-inside       a record number that is not none is within the tables
+--     link-below          a link of the record in a register has a number below S
+--     entry-below         so has the link of the history entry at the position
+--     count-most          no count passes S
+--     old-has-count       phase 5: the count that falls is not 0
+--     value-has-count     phase 6: nor is any that falls while a record is freed
+--     history-has-room    phase 2: the history has room for the log that is added
+--     one-entry           phase 5: the one entry that the view value looks for exists and is the only one
+--     log-has-room        a store that must log has room
+-- Assumes nothing.
+use Prim.Native.Nat.{ℕ, suc, _+_, _-_, _≤_, _<_, zero-le}
+use mathlib.Core.Path.{_≡_, refl, sym, ap, _∙_, subst}
+use mathlib.Core.Bool.{Bool, true, false}
+use mathlib.Core.List.{List, [], _∷_, _++_}
+use native.Mathlib.Omega.{arith}
+use borrow.Author.Tests.{eq-eqb}
+use lib.ListN.{length, getD, length-append}
+use Rattle.rules.specs.declared.Sizes.{Sizes}
+use Rattle.rules.specs.declared.RecordNumber.{RecordNumber}
+use Rattle.rules.specs.declared.LinkNumber.{LinkNumber}
+use Rattle.rules.specs.Size.{links, linkNumber}
+use Rattle.rules.specs.Pool.{Pool, countAt, valueAt, changedAt, registerAt, logAt}
+use Rattle.rules.specs.View.{bit, times, allLogs}
+use Rattle.rules.specs.Collect.{noEntry, entryHere, passes, emptiedFrom}
+use Rattle.rules.specs.Sound.{Sound, EntryInRange, countsFor}
+use Rattle.soundness.proofs.Lists.{length-flatten, Each-at}
+use Rattle.soundness.proofs.Tally.{hit, tally-most}
+use Rattle.soundness.proofs.Room.{room-left}
+use Rattle.soundness.proofs.Core.{Core, core, core-in, position-in, history-room, times-most, links-in-range}
+use Rattle.soundness.proofs.Take.{core-taken}
+use Rattle.soundness.proofs.Count.{old-counted, entry-in-range, value-counted}
+use Rattle.soundness.proofs.Reclaim.{link-inside, passes-unchanged, emptied-changed, core-emptied-from}
+
+module _ {s : Sizes} {p : Pool} (h : Sound s p) where
+  -- registers, links and entries hold record numbers 0..N (`registers`, `values`, `logs` and `history` of `Sound`); one that is not none has its place
+  pub record-inside : (a : RecordNumber) → a .0 ≤ s .n → 1 ≤ a .0 → a .0 - 1 < length (p .records .used)
+  record-inside a low some = omega (arith, h .shaped .records .used)
+
+  pub link-below : (w q f : ℕ) → 1 ≤ registerAt p w q .0 → f < s .k → linkNumber s (registerAt p w q) f .0 < links s
+  link-below w q f some k = link-inside s (registerAt p w q) f some (h .registers w q) k
+
+  pub entry-below : p .collector .position < length (p .history) → EntryInRange s (entryHere p)
+  entry-below k = Each-at (EntryInRange s) (p .history) (p .collector .position) noEntry k (h .history)
+
+  pub count-most : (a : RecordNumber) → 1 ≤ a .0 → a .0 ≤ s .n → countAt p a ≤ links s
+  count-most a some low = omega (arith, h .counts a some low, tally-most (countsFor p) (links s) a)
+
+  pub old-has-count : p .collector .phase ≡ 5 → 1 ≤ entryHere p .old .0 → 1 ≤ countAt p (entryHere p .old)
+  old-has-count e some =
+      let here : p .collector .position < length (p .history) = position-in h 5 e in
+      let old : RecordNumber = entryHere p .old in
+      omega (arith, old-counted (p .collector .position) (core-in h 5 e) here noEntry old some (entry-below here .old), ap bit (eq-eqb old.0 old.0 refl))
+
+  pub history-has-room : (w : ℕ) → p .collector .phase ≡ 2 → w < s .w → length (p .history) + length (logAt p w) ≤ links s
+  history-has-room w e k = omega (arith, history-room (core-taken (core-in h 2 e) w k), length-append (p .history) (logAt p w))
+
+  pub one-entry : (l : LinkNumber) → p .collector .phase ≡ 5 → l .0 < links s → changedAt p l ≡ true → times l (allLogs p) ≡ 1
+  unfolding times
+  one-entry l e k on = omega (arith, core-in h 5 e .marks l k, ap bit on)
+
+  pub log-has-room : (w : ℕ) (l : LinkNumber) → l .0 < links s → changedAt p l ≡ false → length (logAt p w) < links s
+  unfolding allLogs
+  log-has-room w l k off =
+      omega (
+        arith,
+        length-flatten (p .workers .log) w,
+        room-left (allLogs p) (links s) (links-in-range s (allLogs p) (h .logs)) (times-most (core h)) l k (let c = core h in omega (arith, c .marks l k, ap bit off)),
+      )
+
+  -- link f of the record that is freed, once the links before it are emptied
+  pub value-has-count : (a : RecordNumber) (f : ℕ) → p .collector .phase ≡ 6 → 1 ≤ a .0 → a .0 ≤ s .n → passes s p a ≡ true → f < s .k
+      → 1 ≤ valueAt (emptiedFrom s a 0 f p) (linkNumber s a f) .0
+      → 1 ≤ countAt (emptiedFrom s a 0 f p) (valueAt (emptiedFrom s a 0 f p) (linkNumber s a f))
+  value-has-count a f e some low pass k there =
+      let q : Pool = emptiedFrom s a 0 f p in
+      let l : LinkNumber = linkNumber s a f in
+      let v : RecordNumber = valueAt q l in
+      let c : Core s q [] [] =
+      core-emptied-from s a 0 f p (core-in h 6 e) some low (omega arith) (λ g i j. passes-unchanged s p a pass g (omega arith)) in
+      let off : changedAt q l ≡ false =
+      ap (λ (marks : List Bool). getD marks l.0 false) (emptied-changed s a 0 f p) ∙ passes-unchanged s p a pass f k in
+      omega (arith, value-counted c l (link-inside s a f some low k) off v there (c .values l), ap bit (eq-eqb v.0 v.0 refl))

@@ -1,0 +1,27 @@
+-- Every event on a sound pool leaves a sound pool. A reader begins at Kept, which states it, and Known, what the code rests on; the rest leads up to them.
+--     Lists, Entries, Tally, Room     laws on lists, on the entries for a link, on the tally, and on the room that entries take
+--     Core       the sound pool taken apart: what does not look at the collector's record, and what does
+--     Parts      changes that touch no link, log or count
+--     Store      a store
+--     Take, Clear, Count, Reclaim     what phases 2, 3, 5 and 6 do
+--     Steps      the collector's steps
+--     Events     the worker events
+--     Fresh      the fresh pool
+--     Kept       the theorems
+--     Known      facts of every sound pool
+pub mod Lists
+pub mod Entries
+pub mod Tally
+pub mod Room
+pub mod Core
+pub mod Parts
+pub mod Store
+pub mod Take
+pub mod Clear
+pub mod Count
+pub mod Reclaim
+pub mod Steps
+pub mod Events
+pub mod Fresh
+pub mod Kept
+pub mod Known

@@ -1,0 +1,145 @@
+-- Laws on lists that speak of no pool.
+--     eqb-cases                               a test of two numbers, and what it tells
+--     flatten-at, flatten-set                 a list of lists joined, taken apart at one of them
+--     length-flatten                          one of them is no longer than all joined
+--     Each-append, Each-left, Each-right, Each-at, Each-flatten, Each-flatten-set    what holds of each element
+--     ofRecord-same, ofRecord-other, length-withRecord     a table of the records, with another thing for one record
+--     length-zipWith                          the length of a table made of two
+--     set-keeps, set-keeps-below, map-keeps, withRecord-keeps, map-ofRecord-keeps     what holds at every place of a table
+-- Assumes nothing.
+use Prim.Native.Nat.{ℕ, zero, suc, _≤_, _<_, zero-le, suc-le-suc}
+use mathlib.Core.Path.{_≡_, refl, sym, ap, _∙_}
+use mathlib.Core.Logic.{_⊎_, inl, inr}
+use mathlib.Core.Bool.{Bool, true, false}
+use mathlib.Core.List.{List, [], _∷_, _++_, flatten, append-assoc, map, zipWith}
+use native.Mathlib.Omega.{arith}
+use native.Mathlib.Nat.{le-of-suc-le-suc, not-suc-le-zero}
+use native.Mathlib.Decide.{ℕ-discrete}
+use borrow.Author.Tests.{eq-eqb, ne-eqb}
+use lib.Dec.{eqb}
+use lib.ListN.{length, getD, take, drop, set, length-append, length-set}
+use lib.Seq.{getD-set-same, getD-set-other}
+use Rattle.rules.specs.Pool.{ofRecord, withRecord}
+use Rattle.rules.specs.Sound.{Each}
+
+-- ---- a test of two numbers
+
+pub eqb-cases : (m n : ℕ) → ((m ≡ n) × (eqb m n ≡ true)) ⊎ ((m ≡ n → ⊥) × (eqb m n ≡ false))
+eqb-cases m n = from (ℕ-discrete m n)
+  where
+    from : Dec (m ≡ n) → ((m ≡ n) × (eqb m n ≡ true)) ⊎ ((m ≡ n → ⊥) × (eqb m n ≡ false))
+    from (yes e) = inl (e, eq-eqb m n e)
+    from (no d) = inr (d, ne-eqb m n d)
+
+-- ---- a list of lists joined
+
+module _ {A : Type 0} where
+  pub flatten-at : (ls : List (List A)) (w : ℕ) → w < length ls → flatten ls ≡ flatten (take w ls) ++ (getD ls w [] ++ flatten (drop (suc w) ls))
+  unfolding flatten
+  flatten-at [] w h = absurd (not-suc-le-zero h)
+  flatten-at (x ∷ ls) zero h = refl
+  flatten-at (x ∷ ls) (suc w) h = ap (λ t. x ++ t) (flatten-at ls w (le-of-suc-le-suc h)) ∙ sym (append-assoc x _ _)
+
+  pub flatten-set : (ls : List (List A)) (w : ℕ) (xs : List A) → w < length ls → flatten (set ls w xs) ≡ flatten (take w ls) ++ (xs ++ flatten (drop (suc w) ls))
+  unfolding flatten
+  flatten-set [] w xs h = absurd (not-suc-le-zero h)
+  flatten-set (x ∷ ls) zero xs h = refl
+  flatten-set (x ∷ ls) (suc w) xs h = ap (λ t. x ++ t) (flatten-set ls w xs (le-of-suc-le-suc h)) ∙ sym (append-assoc x _ _)
+
+  pub length-flatten : (ls : List (List A)) (w : ℕ) → length (getD ls w []) ≤ length (flatten ls)
+  unfolding flatten
+  length-flatten [] w = zero-le
+  length-flatten (x ∷ ls) zero = omega (arith, length-append x (flatten ls))
+  length-flatten (x ∷ ls) (suc w) = omega (arith, length-append x (flatten ls), length-flatten ls w)
+
+-- ---- what holds of each element
+
+module _ {A : Type 0} (P : A → Type 0) where
+  pub Each-append : (xs ys : List A) → Each P xs → Each P ys → Each P (xs ++ ys)
+  Each-append [] ys h k = k
+  Each-append (x ∷ xs) ys h k = (h .0, Each-append xs ys (h .1) k)
+
+  pub Each-left : (xs ys : List A) → Each P (xs ++ ys) → Each P xs
+  Each-left [] ys h = tt
+  Each-left (x ∷ xs) ys h = (h .0, Each-left xs ys (h .1))
+
+  pub Each-right : (xs ys : List A) → Each P (xs ++ ys) → Each P ys
+  Each-right [] ys h = h
+  Each-right (x ∷ xs) ys h = Each-right xs ys (h .1)
+
+  pub Each-at : (xs : List A) (i : ℕ) (d : A) → i < length xs → Each P xs → P (getD xs i d)
+  Each-at [] i d l h = absurd (not-suc-le-zero l)
+  Each-at (x ∷ xs) zero d l h = h .0
+  Each-at (x ∷ xs) (suc i) d l h = Each-at xs i d (le-of-suc-le-suc l) (h .1)
+
+  pub Each-flatten : (ls : List (List A)) (w : ℕ) → Each P (flatten ls) → Each P (getD ls w [])
+  unfolding flatten
+  Each-flatten [] w h = tt
+  Each-flatten (x ∷ ls) zero h = Each-left x (flatten ls) h
+  Each-flatten (x ∷ ls) (suc w) h = Each-flatten ls w (Each-right x (flatten ls) h)
+
+  pub Each-flatten-set : (ls : List (List A)) (w : ℕ) (xs : List A) → Each P (flatten ls) → Each P xs → Each P (flatten (set ls w xs))
+  unfolding flatten
+  Each-flatten-set [] w xs h k = h
+  Each-flatten-set (x ∷ ls) zero xs h k = Each-append xs (flatten ls) k (Each-right x (flatten ls) h)
+  Each-flatten-set (x ∷ ls) (suc w) xs h k =
+      Each-append x (flatten (set ls w xs)) (Each-left x (flatten ls) h) (Each-flatten-set ls w xs (Each-right x (flatten ls) h) k)
+
+-- ---- a table of the records
+
+module _ {A : Type 0} where
+  pub ofRecord-same : (table : List A) (i : ℕ) (x d : A) → 1 ≤ i → i ≤ length table → ofRecord (withRecord table i x) i d ≡ x
+  ofRecord-same table zero x d h k = absurd (not-suc-le-zero h)
+  ofRecord-same table (suc i) x d h k = getD-set-same table i x d k
+
+  pub ofRecord-other : (table : List A) (i j : ℕ) (x d : A) → (i ≡ j → ⊥) → ofRecord (withRecord table i x) j d ≡ ofRecord table j d
+  ofRecord-other table zero j x d h = refl
+  ofRecord-other table (suc i) zero x d h = refl
+  ofRecord-other table (suc i) (suc j) x d h = getD-set-other table i j x d (λ e. h (ap suc (sym e)))
+
+  pub length-withRecord : (table : List A) (i : ℕ) (x : A) → length (withRecord table i x) ≡ length table
+  length-withRecord table zero x = refl
+  length-withRecord table (suc i) x = length-set table i x
+
+-- ---- whole tables
+
+pub length-zipWith : {A B C : Type 0} (f : A → B → C) (xs : List A) (ys : List B) → length xs ≡ length ys → length (zipWith f xs ys) ≡ length xs
+unfolding zipWith
+length-zipWith f [] ys h = refl
+length-zipWith f (x ∷ xs) [] h = sym h
+length-zipWith f (x ∷ xs) (y ∷ ys) h = ap suc (length-zipWith f xs ys (omega arith))
+
+-- ---- what holds at every place of a table, past its end too
+
+module _ {A : Type 0} (P : A → Type 0) (d : A) where
+  pub set-keeps : (xs : List A) (i : ℕ) (x : A) → P x → ((j : ℕ) → P (getD xs j d)) → (j : ℕ) → P (getD (set xs i x) j d)
+  set-keeps [] i x h all j = all j
+  set-keeps (y ∷ xs) zero x h all zero = h
+  set-keeps (y ∷ xs) zero x h all (suc j) = all (suc j)
+  set-keeps (y ∷ xs) (suc i) x h all zero = all zero
+  set-keeps (y ∷ xs) (suc i) x h all (suc j) = set-keeps xs i x h (λ k. all (suc k)) j
+
+  -- the same of the places that are there alone
+  pub set-keeps-below : (xs : List A) (i : ℕ) (x : A) → (i < length xs → P x) → ((j : ℕ) → j < length xs → P (getD xs j d))
+      → (j : ℕ) → j < length xs → P (getD (set xs i x) j d)
+  set-keeps-below [] i x h all j k = all j k
+  set-keeps-below (y ∷ xs) zero x h all zero k = h k
+  set-keeps-below (y ∷ xs) zero x h all (suc j) k = all (suc j) k
+  set-keeps-below (y ∷ xs) (suc i) x h all zero k = all zero k
+  set-keeps-below (y ∷ xs) (suc i) x h all (suc j) k =
+      set-keeps-below xs i x (λ q. h (suc-le-suc q)) (λ m q. all (suc m) (suc-le-suc q)) j (le-of-suc-le-suc k)
+
+  pub map-keeps : (f : A → A) → ((x : A) → P x → P (f x)) → (xs : List A) → ((j : ℕ) → P (getD xs j d)) → (j : ℕ) → P (getD (map f xs) j d)
+  map-keeps f h [] all j = all j
+  map-keeps f h (x ∷ xs) all zero = h x (all zero)
+  map-keeps f h (x ∷ xs) all (suc j) = map-keeps f h xs (λ k. all (suc k)) j
+
+  -- the same by record numbers
+  pub withRecord-keeps : (table : List A) (i : ℕ) (x : A) → P x → ((j : ℕ) → P (ofRecord table j d)) → (j : ℕ) → P (ofRecord (withRecord table i x) j d)
+  withRecord-keeps table zero x h all j = all j
+  withRecord-keeps table (suc i) x h all zero = all zero
+  withRecord-keeps table (suc i) x h all (suc j) = set-keeps table i x h (λ k. all (suc k)) j
+
+  pub map-ofRecord-keeps : (f : A → A) → ((x : A) → P x → P (f x)) → (table : List A) → ((j : ℕ) → P (ofRecord table j d)) → (j : ℕ) → P (ofRecord (map f table) j d)
+  map-ofRecord-keeps f h table all zero = all zero
+  map-ofRecord-keeps f h table all (suc j) = map-keeps f h table (λ k. all (suc k)) j

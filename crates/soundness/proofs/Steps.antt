@@ -1,0 +1,210 @@
+-- Each collector step on a sound pool leaves a sound pool, phase by phase: what the step does keeps the core, and the collector arrives where the core fits.
+--     stays                 an event that moves neither the collector's record nor the history
+--     opens-sound .. reclaims-sound     the steps of phases 0 to 6
+--     collects-sound        the collect event
+-- Assumes nothing.
+use Prim.Native.Nat.{ℕ, zero, suc, _+_, _≤_, _<_}
+use mathlib.Core.Path.{_≡_, refl, sym, ap, _∙_, subst}
+use mathlib.Core.Logic.{_⊎_, inl, inr}
+use mathlib.Core.Bool.{Bool, true, false, cond}
+use mathlib.Core.List.{List, [], _∷_, _++_}
+use native.Mathlib.Omega.{arith}
+use lib.Dec.{T}
+use lib.ListN.{length, getD, drop, drop-of-length-le}
+use borrow.Author.Tests.{leb-true, leb-false}
+use Rattle.rules.specs.declared.Sizes.{Sizes}
+use Rattle.rules.specs.declared.RecordNumber.{RecordNumber}
+use Rattle.rules.specs.declared.Collector.{Collector}
+use Rattle.rules.specs.Pool.{Entry, Pool, none, registersAt, logAt, withRecords, withHeld, withChanged, withSnoop, withLog, withHistory}
+use Rattle.rules.specs.Collect.{phaseAfter, lastOf, onward, stepped, opens, snoops, madeBy, takes, entryHere, clears, heldBy, scans, falls, rises, counted, counts}
+use Rattle.rules.specs.Collect.{passes, firstPassing, reclaimed, frees, closes, reclaim, reclaims, phases, collects}
+use Rattle.rules.specs.Sound.{Sound, emptyIn, entriesIn, positions, uncleared, uncounted}
+use Rattle.soundness.proofs.Core.{Core, core, core-in, position-in, empty-in, moved, sound, core-moved, arrives, onwards, unclearedIn, uncountedIn, positionsIn}
+use Rattle.soundness.proofs.Parts.{core-records, core-snoop, length-heldBy}
+use Rattle.soundness.proofs.Take.{core-taken, core-made}
+use Rattle.soundness.proofs.Clear.{core-cleared}
+use Rattle.soundness.proofs.Count.{core-counted, core-emptied-history}
+use Rattle.soundness.proofs.Reclaim.{first-passing, emptied-collector, emptied-history, core-freed, core-closed}
+
+-- ---- an event that leaves the collector and the history as they are
+
+module _ {s : Sizes} {p : Pool} (h : Sound s p) where
+  pub stays : (q : Pool) → p .collector ≡ q .collector → p .history ≡ q .history → Core s q (uncleared p) (uncounted p) → Sound s q
+  unfolding uncleared uncounted positions
+  stays q e f c =
+      sound
+      (subst (λ x. Core s q (unclearedIn (x .0 .phase) (x .0 .position) (x .1)) (uncountedIn (x .0 .phase) (x .0 .position) (x .1))) both c)
+      (subst (λ (x : Collector). x .phase ≤ 6) e (h .phase))
+      (subst (λ x. x .0 .position < positionsIn s (x .0 .phase) (x .1)) both (h .position))
+      (subst (λ x. T (emptyIn (x .0 .phase)) → x .1 ≡ []) both (h .history-empty))
+      (subst (λ x. T (entriesIn (x .0 .phase)) → 0 < length (x .1)) both (h .history-entries))
+    where
+      both : _≡_ {A = Collector × List Entry} (p .collector, p .history) (q .collector, q .history)
+      both = λ i. (e i, f i)
+
+-- ---- the phases
+
+module _ {s : Sizes} {p : Pool} (worker : 0 < s .w) (h : Sound s p) where
+  abbrev here : ℕ
+  here = p .collector .position
+
+  opens-sound : p .collector .phase ≡ 0 → Sound s (opens s p .pool)
+  unfolding opens
+  opens-sound e = arrives 1 0 (core-in h 0 e) (omega arith) worker (λ t. empty-in h 0 e tt) (λ t. absurd t)
+
+  snoops-sound : p .collector .phase ≡ 1 → Sound s (snoops s p .pool)
+  unfolding snoops phaseAfter
+  snoops-sound e =
+      let q : Pool = withSnoop here true p in
+      let c : Core s q [] [] = core-snoop (core-in h 1 e) here true in
+      let empty : p .history ≡ [] = empty-in h 1 e tt in
+      onwards s q (s .w) 1 2 e (ap (λ (xs : List Entry). phaseAfter 1 xs) empty)
+      (λ k. arrives 1 (suc here) c (omega arith) k (λ t. empty) (λ t. absurd t))
+      (λ k. arrives 2 0 (subst (λ (xs : List Entry). Core s q xs xs) (sym empty) c) (omega arith) worker (λ t. absurd t) (λ t. absurd t))
+
+  takes-sound : p .collector .phase ≡ 2 → Sound s (takes s p .pool)
+  unfolding takes madeBy phaseAfter
+  takes-sound e =
+      onwards s q (s .w) 2 (phaseAfter 2 (q .history)) e refl
+      (λ k. arrives 2 (suc here) c (omega arith) k (λ t. absurd t) (λ t. absurd t))
+      (λ k. leaves (q .history) refl)
+    where
+      q : Pool
+      q = madeBy here (withLog here [] (withHistory (p .history ++ logAt p here) p))
+
+      c : Core s q (q .history) (q .history)
+      c = core-made (core-taken (core-in h 2 e) here (position-in h 2 e)) here
+
+      leaves : (xs : List Entry) → q .history ≡ xs → Sound s (moved (phaseAfter 2 xs) 0 q)
+      leaves [] f = arrives 4 0 (subst (λ (xs : List Entry). Core s q xs (q .history)) f c) (omega arith) worker (λ t. absurd t) (λ t. absurd t)
+      leaves (x ∷ xs) f =
+          let some : 0 < length (q .history) = omega (arith, ap length f) in
+          arrives 3 0 c (omega arith) some (λ t. absurd t) (λ t. some)
+
+  clears-sound : p .collector .phase ≡ 3 → Sound s (clears s p .pool)
+  unfolding clears phaseAfter
+  clears-sound e =
+      onwards s q (length (p .history)) 3 4 e (next (p .history))
+      (λ k. arrives 3 (suc here) c (omega arith) k (λ t. absurd t) (λ t. omega arith))
+      (λ k.
+      arrives 4 0 (subst (λ (xs : List Entry). Core s q xs (p .history)) (drop-of-length-le (p .history) k) c) (omega arith) worker
+      (λ t. absurd t)
+      (λ t. absurd t))
+    where
+      q : Pool
+      q = withChanged (entryHere p .link) false p
+
+      c : Core s q (drop (suc here) (p .history)) (p .history)
+      c = core-cleared here (core-in h 3 e) (position-in h 3 e) _
+
+      next : (xs : List Entry) → phaseAfter 3 xs ≡ 4
+      next [] = refl
+      next (x ∷ xs) = refl
+
+  scans-sound : p .collector .phase ≡ 4 → Sound s (scans s p .pool)
+  unfolding scans phaseAfter
+  scans-sound e =
+      onwards s q (s .w) 4 (phaseAfter 4 (p .history)) e refl
+      (λ k. arrives 4 (suc here) c (omega arith) k (λ t. absurd t) (λ t. absurd t))
+      (λ k. leaves (p .history) refl)
+    where
+      r : Pool
+      r = withSnoop here false p
+
+      q : Pool
+      q = withHeld (heldBy (registersAt p here) (p .records .held)) r
+
+      snooped : Core s r [] (p .history)
+      snooped = core-snoop (core-in h 4 e) here false
+
+      c : Core s q [] (p .history)
+      c =
+          core-records snooped (p .records .used) (heldBy (registersAt p here) (p .records .held)) (p .records .candidate) (p .records .maker)
+          (snooped .shaped .records .used)
+          (length-heldBy (registersAt p here) (p .records .held) ∙ snooped .shaped .records .held)
+          (snooped .shaped .records .candidate)
+          (snooped .shaped .records .maker)
+          (snooped .makers)
+
+      leaves : (xs : List Entry) → p .history ≡ xs → Sound s (moved (phaseAfter 4 xs) 0 q)
+      leaves [] f = arrives 6 0 (subst (λ (xs : List Entry). Core s q [] xs) f c) (omega arith) (omega arith) (λ t. f) (λ t. absurd t)
+      leaves (x ∷ xs) f =
+          let some : 0 < length (p .history) = omega (arith, ap length f) in
+          arrives 5 0 c (omega arith) some (λ t. absurd t) (λ t. some)
+
+  counts-sound : p .collector .phase ≡ 5 → Sound s (counts s p .pool)
+  unfolding counts phaseAfter counted falls rises
+  counts-sound e = by-place (lastOf n p) refl
+    where
+      n : ℕ
+      n = length (p .history)
+
+      q : Pool
+      q = counted (entryHere p) p
+
+      c : Core s q [] (drop (suc here) (p .history))
+      c = core-counted here (core-in h 5 e) (position-in h 5 e) _
+
+      by-place : (b : Bool) → lastOf n p ≡ b → Sound s (onward n (withHistory (cond b [] (p .history)) q))
+      by-place true last =
+          let over : n ≤ suc here = leb-true n (suc here) last in
+          onwards s (withHistory [] q) n 5 6 e refl (λ k. absurd (omega arith))
+          (λ k.
+          arrives 6 0 (core-emptied-history (subst (λ (xs : List Entry). Core s q [] xs) (drop-of-length-le (p .history) over) c)) (omega arith) (omega arith)
+          (λ t. refl)
+          (λ t. absurd t))
+      by-place false more =
+          let left : suc here < n = leb-false n (suc here) more in
+          onwards s (withHistory (p .history) q) n 5 (phaseAfter 5 (p .history)) e refl
+          (λ k. arrives 5 (suc here) c (omega arith) k (λ t. absurd t) (λ t. omega arith))
+          (λ k. absurd (omega arith))
+
+  -- "If none passes": the close
+  closes-sound : Core s p [] [] → p .history ≡ [] → Sound s (closes p)
+  unfolding closes uncleared uncounted positions
+  closes-sound c empty =
+      sound (core-moved (closes p .collector) (core-closed c)) (omega arith) (omega arith) (λ t. empty) (λ t. absurd t)
+
+  -- "Phase 6 stays."
+  frees-sound : (a : RecordNumber) → p .collector .phase ≡ 6 → Core s (frees s a p) [] [] → Sound s (frees s a p)
+  unfolding frees uncleared uncounted
+  frees-sound a e c =
+      stays h (frees s a p) (sym (emptied-collector s a 0 (s .k) p)) (sym (emptied-history s a 0 (s .k) p))
+      (subst (λ (n : ℕ). Core s (frees s a p) (unclearedIn n here (p .history)) (uncountedIn n here (p .history))) (sym e) c)
+
+  reclaims-sound : p .collector .phase ≡ 6 → Sound s (reclaims s p .pool)
+  unfolding reclaims reclaimed reclaim
+  reclaims-sound e = by-number (found .0) refl (first-passing s p 1 (s .n))
+    where
+      found : RecordNumber
+      found = firstPassing s p 1 (s .n)
+
+      c : Core s p [] []
+      c = core-in h 6 e
+
+      empty : p .history ≡ []
+      empty = empty-in h 6 e tt
+
+      by-number : (k : ℕ) → found .0 ≡ k → (found .0 ≡ 0) ⊎ ((passes s p found ≡ true) × (1 ≤ found .0) × (found .0 < 1 + s .n)) → Sound s (reclaim s p k .pool)
+      by-number zero f x = closes-sound c empty
+      by-number (suc i) f (inl z) = absurd (omega arith)
+      by-number (suc i) f (inr x) =
+          let a : RecordNumber = record { 0 = suc i } in
+          let same : found ≡ a = λ j. record { 0 = f j } in
+          frees-sound a e (core-freed s a p c (omega arith) (omega (arith, x .2)) (subst (λ (b : RecordNumber). passes s p b ≡ true) same (x .0)))
+
+  -- ---- the collect event
+
+  pub collects-sound : Sound s (collects s p .pool)
+  unfolding collects phases
+  collects-sound = in-phase (p .collector .phase) refl (h .phase)
+    where
+      in-phase : (k : ℕ) → p .collector .phase ≡ k → k ≤ 6 → Sound s (getD phases k (λ s p. stepped p) s p .pool)
+      in-phase zero e l = opens-sound e
+      in-phase (suc zero) e l = snoops-sound e
+      in-phase (suc (suc zero)) e l = takes-sound e
+      in-phase (suc (suc (suc zero))) e l = clears-sound e
+      in-phase (suc (suc (suc (suc zero)))) e l = scans-sound e
+      in-phase (suc (suc (suc (suc (suc zero))))) e l = counts-sound e
+      in-phase (suc (suc (suc (suc (suc (suc zero)))))) e l = reclaims-sound e
+      in-phase (suc (suc (suc (suc (suc (suc (suc k))))))) e l = absurd (omega arith)
