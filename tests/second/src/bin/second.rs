@@ -1,0 +1,98 @@
+//! `second`            replays the trace on standard input
+//! `second --check`    the same, and holds every event to document 01 and the tender
+//! `second --many FOLDER FIRST COUNT [FIRST COUNT ..]`
+//!                     makes and checks COUNT traces from the seed FIRST on, says what was
+//!                     reached, and keeps a trace that fails in the folder
+//!
+//! Leaves with 0, also after a refused trace; with 1 if a check did not hold, if something was
+//! never reached or if reading or writing failed; with 2 if called otherwise.
+
+use std::io::{self, BufWriter, Read, Write};
+use std::path::{Path, PathBuf};
+use std::process::ExitCode;
+
+use second::check::Check;
+use second::many::{many, Failure};
+use second::replay::{replay, Ending};
+use second::tally::Tally;
+
+fn main() -> ExitCode {
+    let arguments: Vec<String> = std::env::args().skip(1).collect();
+    let words: Vec<&str> = arguments.iter().map(String::as_str).collect();
+    let done = match words[..] {
+        [] => replay_input(false),
+        ["--check"] => replay_input(true),
+        ["--many", folder, ref seeds @ ..] => match ranges(seeds) {
+            Some(ranges) => check_many(Path::new(folder), &ranges),
+            None => return usage(),
+        },
+        _ => return usage(),
+    };
+    match done {
+        Ok(true) => ExitCode::SUCCESS,
+        Ok(false) => ExitCode::FAILURE,
+        Err(error) => {
+            let _ = writeln!(io::stderr(), "second: {error}");
+            ExitCode::FAILURE
+        }
+    }
+}
+
+fn usage() -> ExitCode {
+    let ways = "second [--check] < TRACE | second --many FOLDER FIRST COUNT [FIRST COUNT ..]";
+    let _ = writeln!(io::stderr(), "usage: {ways}");
+    ExitCode::from(2)
+}
+
+fn replay_input(checked: bool) -> io::Result<bool> {
+    let mut trace = Vec::new();
+    io::stdin().read_to_end(&mut trace)?;
+    let mut out = BufWriter::new(io::stdout().lock());
+    let mut tally = Tally::default();
+    let mut check = Check::new(&mut tally);
+    let ending = replay(&trace, &mut out, checked.then_some(&mut check))?;
+    out.flush()?;
+    if let Ending::Broken { step, sentence } = ending {
+        writeln!(io::stderr(), "failed at step {step}: {sentence}")?;
+        return Ok(false);
+    }
+    Ok(true)
+}
+
+/// Pairs of a first seed and how many.
+fn ranges(seeds: &[&str]) -> Option<Vec<(u64, u64)>> {
+    let numbers: Vec<u64> = seeds.iter().map(|word| word.parse().ok()).collect::<Option<_>>()?;
+    let whole = !numbers.is_empty() && numbers.len().is_multiple_of(2);
+    whole.then(|| numbers.chunks(2).map(|pair| (pair[0], pair[1])).collect())
+}
+
+fn check_many(folder: &Path, ranges: &[(u64, u64)]) -> io::Result<bool> {
+    let mut tally = Tally::default();
+    for (first, how_many) in ranges {
+        if let Err(failure) = many(*first, *how_many, &mut tally) {
+            keep(folder, &failure)?;
+            return Ok(false);
+        }
+    }
+    let mut out = io::stdout().lock();
+    write!(out, "{tally}")?;
+    let faults = tally.faults();
+    for fault in &faults {
+        writeln!(out, "{fault}")?;
+    }
+    Ok(faults.is_empty())
+}
+
+/// Keeps the trace of a failure and says how to run it alone.
+fn keep(folder: &Path, failure: &Failure) -> io::Result<()> {
+    std::fs::create_dir_all(folder)?;
+    let file = folder.join(format!("seed-{}.bytes", failure.seed));
+    std::fs::write(&file, &failure.trace)?;
+    let second = PathBuf::from(std::env::args_os().next().unwrap_or("second".into()));
+    let trace = second.with_file_name("trace");
+    let (second, trace, file) = (second.display(), trace.display(), file.display());
+    let mut out = io::stdout().lock();
+    writeln!(out, "seed {} failed at {}", failure.seed, failure.what)?;
+    writeln!(out, "the trace is kept; run it alone: {second} --check < {file}")?;
+    writeln!(out, "or look at it:                   {trace} show < {file}")
+}

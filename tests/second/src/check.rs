@@ -1,0 +1,183 @@
+//! Document 01 and the tender held to their word, after every event of a run from a fresh pool.
+//!
+//! A check looks at the pool before and after an event and at the answer, never at how the rules
+//! came from one to the other.
+
+use std::collections::{BTreeMap, BTreeSet};
+
+use crate::event::{Answer, Event};
+use crate::pool::{Link, Pool, Record};
+use crate::reach::{left_to_loops, lost, reached, two_workers_share};
+use crate::sound::{sound, tallies_are_the_counts};
+use crate::tally::Tally;
+
+/// A cycle "opens with the step out of phase 0 and closes with the step back to it".
+struct Cycle {
+    collector_steps: usize,
+    /// Lost at the opening, loops aside.
+    lost: BTreeSet<Record>,
+    freed: BTreeSet<Record>,
+}
+
+/// What has to be remembered of a run.
+pub struct Check<'a> {
+    tally: &'a mut Tally,
+    /// The value last seen of each link; none is missing.
+    last_seen: BTreeMap<Link, Record>,
+    /// The makes answered with 0 less the records freed.
+    made_and_not_freed: BTreeSet<Record>,
+    cycle: Option<Cycle>,
+}
+
+/// One event, seen from outside.
+struct Moment<'a> {
+    before: &'a Pool,
+    event: Event,
+    answer: Answer,
+    after: &'a Pool,
+}
+
+impl Moment<'_> {
+    /// The record that a collector step freed.
+    fn freed(&self) -> Option<Record> {
+        match self.event {
+            Event::Collect => self.answer.value,
+            _ => None,
+        }
+    }
+
+    fn opens(&self) -> bool {
+        self.before.phase == 0 && self.after.phase != 0
+    }
+
+    fn closes(&self) -> bool {
+        self.before.phase != 0 && self.after.phase == 0
+    }
+}
+
+fn hold(holds: bool, sentence: impl FnOnce() -> String) -> Result<(), String> {
+    if holds {
+        Ok(())
+    } else {
+        Err(sentence())
+    }
+}
+
+impl<'a> Check<'a> {
+    pub fn new(tally: &'a mut Tally) -> Check<'a> {
+        Check { tally, last_seen: BTreeMap::new(), made_and_not_freed: BTreeSet::new(), cycle: None }
+    }
+
+    /// A fresh pool is sound.
+    pub fn fresh(&mut self, pool: &Pool) -> Result<(), String> {
+        sound(pool)
+    }
+
+    /// Every promise after one event.
+    pub fn event(&mut self, before: &Pool, event: Event, answer: Answer, after: &Pool) -> Result<(), String> {
+        let moment = Moment { before, event, answer, after };
+        self.tally.event(before, event, answer);
+        refused_changes_nothing(&moment)?;
+        freed_is_out_of_reach(&moment)?;
+        sound(after)?;
+        self.used_are_made_less_freed(&moment)?;
+        self.remember_last_seen(&moment);
+        self.opening(&moment);
+        self.cycle_is_short(&moment)?;
+        self.lost_is_freed(&moment)?;
+        self.counts_at_the_close(&moment)
+    }
+
+    /// "From a fresh pool the used records are the makes answered with 0 less the records freed."
+    fn used_are_made_less_freed(&mut self, moment: &Moment) -> Result<(), String> {
+        if let (Event::Make { .. }, 0) = (moment.event, moment.answer.number) {
+            self.made_and_not_freed.extend(moment.answer.value);
+        }
+        if let Some(record) = moment.freed() {
+            self.made_and_not_freed.remove(&record);
+        }
+        hold(moment.after.used == self.made_and_not_freed, || {
+            "the used records are not the makes answered with 0 less the records freed".into()
+        })
+    }
+
+    /// The value last seen: none at first; at the clearing of a changed mark the link's value
+    /// then; at an emptying in freeing, none.
+    fn remember_last_seen(&mut self, moment: &Moment) {
+        for link in moment.before.changed.difference(&moment.after.changed) {
+            match moment.before.value(*link) {
+                Some(value) => self.last_seen.insert(*link, value),
+                None => self.last_seen.remove(link),
+            };
+        }
+        if let Some(record) = moment.freed() {
+            self.last_seen.retain(|link, _| link.of != record);
+        }
+    }
+
+    fn opening(&mut self, moment: &Moment) {
+        if !moment.opens() {
+            return;
+        }
+        let lost = lost(moment.before);
+        let left = left_to_loops(moment.before, &lost);
+        self.tally.opening(&lost, &left, two_workers_share(moment.before));
+        self.cycle = Some(Cycle {
+            collector_steps: 0,
+            lost: lost.difference(&left).copied().collect(),
+            freed: BTreeSet::new(),
+        });
+    }
+
+    /// A cycle closes within 3W + 2S + N + 2 collector steps, the opening and the closing one
+    /// included.
+    fn cycle_is_short(&mut self, moment: &Moment) -> Result<(), String> {
+        let sizes = moment.after.sizes;
+        let most = 3 * usize::from(sizes.w) + 2 * sizes.s() + usize::from(sizes.n) + 2;
+        if let (Some(cycle), Event::Collect) = (&mut self.cycle, moment.event) {
+            cycle.collector_steps += 1;
+            cycle.freed.extend(moment.freed());
+            return hold(cycle.collector_steps <= most, || {
+                format!("the cycle did not close within 3W + 2S + N + 2 = {most} collector steps")
+            });
+        }
+        Ok(())
+    }
+
+    /// What was lost at the opening, loops aside, was freed in that cycle.
+    fn lost_is_freed(&mut self, moment: &Moment) -> Result<(), String> {
+        if !moment.closes() {
+            return Ok(());
+        }
+        let Some(cycle) = self.cycle.take() else {
+            return Err("a cycle closed that was not opened".into());
+        };
+        let left: Vec<u16> = cycle.lost.difference(&cycle.freed).map(|record| record.0).collect();
+        hold(left.is_empty(), || {
+            format!("lost at the opening, loops aside, and not freed in that cycle: {left:?}")
+        })
+    }
+
+    /// At each close the counts are those of the values last seen.
+    fn counts_at_the_close(&self, moment: &Moment) -> Result<(), String> {
+        let hold_now =
+            !moment.closes() || tallies_are_the_counts(moment.after, self.last_seen.values().copied());
+        hold(hold_now, || "at the close the counts are not those of the values last seen".into())
+    }
+}
+
+/// "A refused event has the value 0 and changes nothing."
+fn refused_changes_nothing(moment: &Moment) -> Result<(), String> {
+    let nothing = moment.answer.value.is_none() && moment.before == moment.after;
+    hold(moment.answer.number == 0 || nothing, || "a refused event has a value or changes something".into())
+}
+
+/// A freed record is out of every worker's reach.
+fn freed_is_out_of_reach(moment: &Moment) -> Result<(), String> {
+    match moment.freed() {
+        Some(record) => hold(!reached(moment.before).contains(&record), || {
+            format!("record {} was freed and is in a worker's reach", record.0)
+        }),
+        None => Ok(()),
+    }
+}

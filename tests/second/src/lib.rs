@@ -1,0 +1,45 @@
+//! Document 01 a second time, in maps, sets and vectors: one function for one sentence, written
+//! from the document and from nothing else, so that the proved program can be compared with it.
+//!
+//! The rules
+//! - `pool`       what a pool consists of, and a fresh one
+//! - `event`      the events, their answers, and the order of an event's refusals
+//! - `worker`     make, move, drop, load, store
+//! - `collector`  the collector's steps
+//!
+//! The program
+//! - `trace`      the fields of a trace, and the order of a field's refusals
+//! - `replay`     a whole trace: what is printed
+//! - `text`       the text form of a trace
+//!
+//! The checks
+//! - `sound`      a sound pool, clause by clause
+//! - `reach`      what is reached, lost, and left to closed loops
+//! - `check`      the promises, held to after every event
+//! - `tally`      what a set of traces reached
+//!
+//! The made traces
+//! - `random`     a seeded stream of numbers
+//! - `habit`      what a worker sets out to do next
+//! - `maker`      a whole trace from a seed
+//! - `damage`     the ways in which a trace is damaged
+//! - `many`       many seeds, made and checked in one process
+
+#![forbid(unsafe_code)]
+
+pub mod check;
+pub mod collector;
+pub mod damage;
+pub mod event;
+pub mod habit;
+pub mod maker;
+pub mod many;
+pub mod pool;
+pub mod random;
+pub mod reach;
+pub mod replay;
+pub mod sound;
+pub mod tally;
+pub mod text;
+pub mod trace;
+pub mod worker;

@@ -1,0 +1,154 @@
+//! A trace from a seed: whole or damaged.
+
+use crate::damage::Damage;
+use crate::event::{happen, Event};
+use crate::habit::Habit;
+use crate::pool::{Pool, Record, Sizes};
+use crate::random::Random;
+use crate::reach::would_close_a_loop;
+use crate::trace::{Field, LARGEST};
+
+pub struct Made {
+    pub trace: Vec<u8>,
+    pub damage: Option<Damage>,
+}
+
+/// One in four traces is damaged.
+pub fn make(seed: u64) -> Made {
+    let mut random = Random::new(seed);
+    let sizes = choose_sizes(&mut random);
+    let events = 20 + random.below(if sizes.n > 16 { 1000 } else { 500 });
+    let mut maker = Maker::new(sizes, random);
+    maker.work(events);
+    if maker.random.percent(50) {
+        maker.abandon();
+    }
+    maker.end();
+    let damage = maker.random.percent(25).then(|| maker.random.pick(&Damage::ALL));
+    let trace = match damage {
+        Some(damage) => damage.done_to(&maker.fields, &mut maker.random),
+        None => maker.fields.iter().flat_map(Field::bytes).collect(),
+    };
+    Made { trace, damage }
+}
+
+/// Mostly small, for then the same records meet again and again; some in between, some at the
+/// limits of `replay`.
+fn choose_sizes(random: &mut Random) -> Sizes {
+    let (n, k, w, r) = match random.below(20) {
+        0..=8 => (4, 2, 2, 3),
+        9..=15 => (8, 3, 3, 4),
+        16..=18 => (24, 4, 4, 6),
+        _ => return at_the_limits(random),
+    };
+    Sizes {
+        n: random.between(1, n),
+        k: random.between(1, k),
+        w: random.between(1, w),
+        r: random.between(1, r),
+    }
+}
+
+/// Each size as large or as small as `replay` takes it.
+fn at_the_limits(random: &mut Random) -> Sizes {
+    let mut limit = |largest| if random.percent(70) { largest } else { 1 };
+    Sizes { n: limit(LARGEST.n), k: limit(LARGEST.k), w: limit(LARGEST.w), r: limit(LARGEST.r) }
+}
+
+struct Maker {
+    random: Random,
+    /// The pool as the events so far leave it: workers look at their registers.
+    pool: Pool,
+    fields: Vec<Field>,
+    steps: u32,
+    /// What each worker has still to do of its plan, the next event last.
+    plans: Vec<Vec<Event>>,
+    /// Where loops may be closed, a small pool soon holds little else.
+    loops: bool,
+}
+
+impl Maker {
+    fn new(sizes: Sizes, mut random: Random) -> Maker {
+        Maker {
+            loops: random.percent(35),
+            random,
+            pool: Pool::fresh(sizes),
+            fields: vec![Field::Sizes(sizes)],
+            steps: 0,
+            plans: vec![Vec::new(); usize::from(sizes.w)],
+        }
+    }
+
+    fn add(&mut self, event: Event) {
+        self.steps += 1;
+        happen(&mut self.pool, event);
+        self.fields.push(Field::Event { step: self.steps, event });
+    }
+
+    /// Stretches of events. In each the collector has another rate, from never to always, and the
+    /// workers have a few habits of their own.
+    fn work(&mut self, events: usize) {
+        let until = self.steps as usize + events;
+        while (self.steps as usize) < until {
+            let rate = self.random.pick(&[0, 3, 10, 30, 50, 70, 90, 100]);
+            let habits: Vec<Habit> = (0..3).map(|_| self.random.pick(&Habit::ALL)).collect();
+            for _ in 0..5 + self.random.below(40) {
+                if self.random.percent(rate) {
+                    self.add(Event::Collect);
+                } else {
+                    self.worker_event(&habits);
+                }
+            }
+        }
+    }
+
+    /// The next event of some worker's plan. A worker that has none lets the collector step.
+    fn worker_event(&mut self, habits: &[Habit]) {
+        let w = self.random.below(self.plans.len());
+        if self.plans[w].is_empty() {
+            let habit = self.random.pick(habits);
+            let mut plan = habit.plan(&self.pool, w as u8, &mut self.random);
+            plan.reverse();
+            self.plans[w] = plan;
+        }
+        match self.plans[w].pop() {
+            Some(event) if self.loops || !self.closes_a_loop(event) => self.add(event),
+            Some(_) => {}
+            None => self.add(Event::Collect),
+        }
+    }
+
+    fn closes_a_loop(&self, event: Event) -> bool {
+        let Event::Store { w, q, r, .. } = event else { return false };
+        let held = |register: u8| -> Option<Record> {
+            *self.pool.workers.get(usize::from(w))?.registers.get(usize::from(register))?
+        };
+        match (held(q), held(r)) {
+            (Some(from), Some(to)) => would_close_a_loop(&self.pool, from, to),
+            _ => false,
+        }
+    }
+
+    /// Some registers are dropped, and the collector goes on until two cycles have closed.
+    fn abandon(&mut self) {
+        for w in 0..self.pool.sizes.w as u8 {
+            for r in 0..self.pool.sizes.r as u8 {
+                if self.random.percent(80) {
+                    self.add(Event::Drop { w, r });
+                }
+            }
+        }
+        let sizes = self.pool.sizes;
+        let cycle = 3 * usize::from(sizes.w) + 2 * sizes.s() + usize::from(sizes.n) + 2;
+        let closed = self.pool.closed.wrapping_add(2);
+        for _ in 0..3 * cycle {
+            if self.pool.closed != closed {
+                self.add(Event::Collect);
+            }
+        }
+    }
+
+    fn end(&mut self) {
+        self.fields.push(Field::End { count: self.steps });
+    }
+}

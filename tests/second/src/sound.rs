@@ -1,0 +1,191 @@
+//! "A sound pool" of document 01, clause by clause, by code of its own: nothing of the rules is
+//! used, so that a wrong rule is seen here.
+//!
+//! Held by the types: "marks and flags 0 or 1" are sets and `bool`s, "0 in every entry past a
+//! list's length" has no place in a vector.
+
+use std::collections::{BTreeMap, BTreeSet};
+
+use crate::pool::{Entry, Link, Pool, Record};
+
+/// The first clause that does not hold, in words.
+pub fn sound(pool: &Pool) -> Result<(), String> {
+    let clauses: [(bool, &str); 9] = [
+        (phase_and_position(pool), "phase 0..6, the position in its range"),
+        (history_by_phase(pool), "history empty in 0, 1, 6 and not empty in 3, 5"),
+        (record_numbers(pool), "record numbers in registers, links and entries 0..N"),
+        (link_numbers(pool), "link numbers in entries below S"),
+        (makers(pool), "makers 0..W"),
+        (list_lengths(pool), "list lengths at most S"),
+        (history_without_repeats(pool), "no link twice in the history"),
+        (marks_and_entries(pool), "a marked link stands exactly once among the entries, another nowhere"),
+        (counts(pool), "each record's count is the number of links counted for it"),
+    ];
+    match clauses.into_iter().find(|(holds, _)| !holds) {
+        Some((_, clause)) => Err(format!("the pool is not sound: {clause}")),
+        None => Ok(()),
+    }
+}
+
+/// "phase 0..6; position below W in phases 1, 2, 4, below the history's length in 3 and 5, else 0."
+fn phase_and_position(pool: &Pool) -> bool {
+    match pool.phase {
+        1 | 2 | 4 => pool.position < usize::from(pool.sizes.w),
+        3 | 5 => pool.position < pool.history.len(),
+        0 | 6 => pool.position == 0,
+        _ => false,
+    }
+}
+
+/// "history empty in 0, 1, 6 and not empty in 3, 5."
+fn history_by_phase(pool: &Pool) -> bool {
+    match pool.phase {
+        0 | 1 | 6 => pool.history.is_empty(),
+        3 | 5 => !pool.history.is_empty(),
+        _ => true,
+    }
+}
+
+fn entries(pool: &Pool) -> impl Iterator<Item = &Entry> {
+    let logged = pool.workers.iter().flat_map(|worker| &worker.log);
+    logged.chain(&pool.history)
+}
+
+/// "record numbers in registers, links and entries 0..N." A mark or a count of a record that is
+/// not there has no place in the tables either.
+fn record_numbers(pool: &Pool) -> bool {
+    let is_one = |record: &Record| (1..=pool.sizes.n).contains(&record.0);
+    let held_by_workers = pool.workers.iter().flat_map(|worker| worker.registers.iter().flatten());
+    let marked = pool.used.iter().chain(&pool.held).chain(&pool.candidates);
+    held_by_workers.chain(marked).all(is_one)
+        && pool.values.values().chain(pool.counts.keys()).chain(pool.makers.keys()).all(is_one)
+        && entries(pool).all(|entry| entry.old.is_none_or(|old| is_one(&old)))
+}
+
+/// "link numbers in entries below S": the record is there and has that link.
+fn link_numbers(pool: &Pool) -> bool {
+    let is_one = |link: &Link| (1..=pool.sizes.n).contains(&link.of.0) && link.f < usize::from(pool.sizes.k);
+    entries(pool).all(|entry| is_one(&entry.link)) && pool.values.keys().chain(&pool.changed).all(is_one)
+}
+
+/// "makers 0..W": a maker is a worker + 1, or 0.
+fn makers(pool: &Pool) -> bool {
+    pool.makers.values().all(|worker| *worker < usize::from(pool.sizes.w))
+}
+
+/// "list lengths at most S."
+fn list_lengths(pool: &Pool) -> bool {
+    let mut logs = pool.workers.iter().map(|worker| &worker.log);
+    logs.all(|log| log.len() <= pool.sizes.s()) && pool.history.len() <= pool.sizes.s()
+}
+
+/// "no link twice in the history."
+fn history_without_repeats(pool: &Pool) -> bool {
+    let links: BTreeSet<Link> = pool.history.iter().map(|entry| entry.link).collect();
+    links.len() == pool.history.len()
+}
+
+/// "a link whose mark is on stands exactly once among all logs together with the history not yet
+/// cleared (all of it in phase 2, from the position on in phase 3, none otherwise); a link whose
+/// mark is off stands nowhere there."
+fn marks_and_entries(pool: &Pool) -> bool {
+    let uncleared = match pool.phase {
+        2 => &pool.history[..],
+        3 => pool.history.get(pool.position..).unwrap_or(&[]),
+        _ => &[],
+    };
+    let logged = pool.workers.iter().flat_map(|worker| &worker.log);
+    let standing: Vec<Link> = logged.chain(uncleared).map(|entry| entry.link).collect();
+    let different: BTreeSet<Link> = standing.iter().copied().collect();
+    different.len() == standing.len() && different == pool.changed
+}
+
+/// "each record's count is the number of links counted for it."
+fn counts(pool: &Pool) -> bool {
+    let logged = logged_values(pool);
+    let uncounted = uncounted_values(pool);
+    let counted_for = |link: Link| -> Option<Record> {
+        if let Some(old) = uncounted.get(&link) {
+            *old
+        } else if pool.changed.contains(&link) {
+            logged.get(&link).copied().flatten()
+        } else {
+            pool.values.get(&link).copied()
+        }
+    };
+    tallies_are_the_counts(pool, pool.sizes.links().filter_map(counted_for))
+}
+
+/// The old values of history entries "not yet counted (all in phases 2 to 4, from the position on
+/// in phase 5)".
+fn uncounted_values(pool: &Pool) -> BTreeMap<Link, Option<Record>> {
+    let uncounted = match pool.phase {
+        2..=4 => &pool.history[..],
+        5 => pool.history.get(pool.position..).unwrap_or(&[]),
+        _ => &[],
+    };
+    uncounted.iter().map(|entry| (entry.link, entry.old)).collect()
+}
+
+/// "the old value in the one log entry for it": the other half of a view value.
+fn logged_values(pool: &Pool) -> BTreeMap<Link, Option<Record>> {
+    let logged = pool.workers.iter().flat_map(|worker| &worker.log);
+    logged.map(|entry| (entry.link, entry.old)).collect()
+}
+
+/// Whether each record's count is how often it stands among `values`.
+pub fn tallies_are_the_counts(pool: &Pool, values: impl Iterator<Item = Record>) -> bool {
+    let mut tallies: BTreeMap<Record, i64> = BTreeMap::new();
+    for record in values {
+        *tallies.entry(record).or_insert(0) += 1;
+    }
+    let tally = |record: &Record| tallies.get(record).copied().unwrap_or(0);
+    pool.sizes.records().all(|record| tally(&record) == pool.counts.get(&record).copied().unwrap_or(0))
+}
+
+#[cfg(test)]
+mod tests {
+    use super::*;
+    use crate::event::{happen, Event};
+    use crate::pool::Sizes;
+
+    /// A pool in phase 3 with a link marked, one record held and one count yet to rise.
+    fn amid_a_cycle() -> Pool {
+        let mut pool = Pool::fresh(Sizes { n: 2, k: 1, w: 1, r: 1 });
+        happen(&mut pool, Event::Make { w: 0, r: 0 });
+        happen(&mut pool, Event::Store { w: 0, q: 0, f: 0, r: 0 });
+        for _ in 0..3 {
+            happen(&mut pool, Event::Collect);
+        }
+        assert_eq!(sound(&pool), Ok(()));
+        pool
+    }
+
+    /// Each clause is one that can fail: a pool that breaks it and none before it is told so.
+    #[test]
+    fn each_clause_can_fail() {
+        let link = Link { of: Record(1), f: 0 };
+        type Break = (&'static str, fn(&mut Pool, Link));
+        let breaks: [Break; 10] = [
+            ("phase 0..6", |pool, _| pool.phase = 7),
+            ("phase 0..6", |pool, _| pool.position = 1),
+            ("history empty in 0, 1, 6", |pool, _| pool.phase = 1),
+            ("record numbers", |pool, _| pool.workers[0].registers[0] = Some(Record(3))),
+            ("record numbers", |pool, _| pool.history[0].old = Some(Record(3))),
+            ("link numbers", |pool, _| pool.history[0].link.f = 1),
+            ("makers", |pool, _| pool.makers.extend([(Record(1), 1)])),
+            ("list lengths", |pool, link| pool.workers[0].log = vec![Entry { link, old: None }; 3]),
+            ("a marked link", |pool, _| pool.changed.clear()),
+            ("each record's count", |pool, _| pool.counts.extend([(Record(2), 1)])),
+        ];
+        for (clause, broken) in breaks {
+            let mut pool = amid_a_cycle();
+            broken(&mut pool, link);
+            let told = sound(&pool).unwrap_err();
+            assert!(told.contains(clause), "{told}, not {clause}");
+        }
+        let mut pool = amid_a_cycle();
+        pool.history.push(pool.history[0]);
+        assert!(sound(&pool).unwrap_err().contains("no link twice"));
+    }
+}

@@ -1,0 +1,194 @@
+//! What a set of traces reached: how often each answer number, each phase, each event in each
+//! phase, each kind of damage and each of the situations that the rules are about.
+
+use std::collections::{BTreeMap, BTreeSet};
+use std::fmt;
+
+use crate::damage::Damage;
+use crate::event::{Answer, Event};
+use crate::pool::{Link, Pool, Record};
+use crate::replay::Ending;
+use crate::trace::Kind;
+
+const KINDS: [(Kind, &str); 6] = [
+    (Kind::Make, "make"),
+    (Kind::Move, "move"),
+    (Kind::Drop, "drop"),
+    (Kind::Load, "load"),
+    (Kind::Store, "store"),
+    (Kind::Collect, "collect"),
+];
+
+/// Answer numbers that no trace reaches, with the reason. They must stay at 0.
+const UNREACHED: [(usize, &str); 2] = [
+    (2, "not from a trace: it starts fresh, every event leaves a sound pool, none is checked again"),
+    (6, "not on a sound pool: a link that must be logged stands in no log, so each has fewer than S entries"),
+];
+
+/// Situations that the rules are about and an answer number does not show.
+const SITUATIONS: [&str; 9] = [
+    "store logs an overwritten record",
+    "store on a link that is marked already",
+    "snooped store of a record",
+    "entry counted whose link is marked again and holds another value",
+    "phase 6 passes over a candidate that only an entry outstanding keeps",
+    "phase 6 passes over a candidate that only its held mark keeps",
+    "opening with lost records that no loop keeps",
+    "opening with lost records that a loop keeps",
+    "record made by a worker, freed, and made by another",
+];
+
+/// No event takes a record out of another worker's register, and a load or a store goes through a
+/// worker's own registers: so no record ever comes into the reach of two workers.
+const SHARED: &str = "openings with a record in the reach of two workers (no event can bring that about)";
+
+#[derive(Default)]
+pub struct Tally {
+    pub traces: u64,
+    whole: u64,
+    answers: [u64; 13],
+    /// Events answered with 0, by kind and by the phase they came in.
+    done: [[u64; 7]; KINDS.len()],
+    damages: BTreeMap<&'static str, u64>,
+    situations: [u64; SITUATIONS.len()],
+    shared: u64,
+    last_maker: BTreeMap<Record, u8>,
+}
+
+impl Tally {
+    /// One event, with the pool it came upon.
+    pub fn event(&mut self, before: &Pool, event: Event, answer: Answer) {
+        self.answers[usize::from(answer.number)] += 1;
+        if answer.number != 0 {
+            return;
+        }
+        let phase = usize::from(before.phase);
+        for (done, (kind, _)) in self.done.iter_mut().zip(KINDS) {
+            done[phase] += u64::from(kind == event.kind());
+        }
+        match event {
+            Event::Store { w, q, f, r } => self.store(before, [w, q, f, r]),
+            Event::Collect => self.collector_step(before),
+            Event::Make { w, .. } => self.make(w, answer.value),
+            _ => {}
+        }
+    }
+
+    fn store(&mut self, before: &Pool, numbers: [u8; 4]) {
+        let [w, q, f, r] = numbers.map(usize::from);
+        let worker = &before.workers[w];
+        let Some(of) = worker.registers[q] else { return };
+        let link = Link { of, f };
+        let marked = before.changed.contains(&link);
+        self.situations[0] += u64::from(!marked && before.value(link).is_some());
+        self.situations[1] += u64::from(marked);
+        self.situations[2] += u64::from(worker.snoops && worker.registers[r].is_some());
+    }
+
+    fn collector_step(&mut self, before: &Pool) {
+        if before.phase == 5 {
+            let link = before.history[before.position].link;
+            let mut logged = before.workers.iter().flat_map(|worker| &worker.log);
+            let again = logged.find(|entry| entry.link == link);
+            let differs = again.is_some_and(|entry| entry.old != before.value(link));
+            self.situations[3] += u64::from(differs);
+        }
+        if before.phase == 6 {
+            let marked: BTreeSet<Record> = before.changed.iter().map(|link| link.of).collect();
+            let kept_by = |held: bool, outstanding: bool| {
+                before.candidates.iter().any(|record| {
+                    before.count(*record) == 0
+                        && before.held.contains(record) == held
+                        && marked.contains(record) == outstanding
+                })
+            };
+            self.situations[4] += u64::from(kept_by(false, true));
+            self.situations[5] += u64::from(kept_by(true, false));
+        }
+    }
+
+    fn make(&mut self, w: u8, made: Option<Record>) {
+        let Some(record) = made else { return };
+        let before = self.last_maker.insert(record, w);
+        self.situations[8] += u64::from(before.is_some_and(|maker| maker != w));
+    }
+
+    /// The opening of a cycle: what was lost, and which of it is left to loops.
+    pub fn opening(&mut self, lost: &BTreeSet<Record>, left: &BTreeSet<Record>, shared: bool) {
+        self.situations[6] += u64::from(left.len() < lost.len());
+        self.situations[7] += u64::from(!left.is_empty());
+        self.shared += u64::from(shared);
+    }
+
+    /// The end of a trace.
+    pub fn ending(&mut self, ending: &Ending, damage: Option<Damage>) {
+        self.traces += 1;
+        self.last_maker.clear();
+        match ending {
+            Ending::Whole => self.whole += 1,
+            Ending::Refused(refusal) => self.answers[usize::from(refusal.number)] += 1,
+            Ending::Broken { .. } => {}
+        }
+        if let Some(damage) = damage {
+            *self.damages.entry(damage.name()).or_insert(0) += 1;
+        }
+    }
+
+    /// What should have been reached and was not, and what was reached and cannot be.
+    pub fn faults(&self) -> Vec<String> {
+        let mut faults = Vec::new();
+        let mut judge = |what: String, times: u64, reachable: bool| {
+            if (times > 0) != reachable {
+                let verb = if reachable { "never reached" } else { "reached" };
+                faults.push(format!("{verb}: {what}"));
+            }
+        };
+        for (number, times) in self.answers.iter().enumerate() {
+            let reachable = UNREACHED.iter().all(|(unreached, _)| *unreached != number);
+            judge(format!("answer {number}"), *times, reachable);
+        }
+        for (row, (_, name)) in self.done.iter().zip(KINDS) {
+            for (phase, times) in row.iter().enumerate() {
+                judge(format!("{name} in phase {phase}"), *times, true);
+            }
+        }
+        for damage in Damage::ALL {
+            let times = self.damages.get(damage.name()).copied().unwrap_or(0);
+            judge(format!("damage: {}", damage.name()), times, true);
+        }
+        for (times, situation) in self.situations.iter().zip(SITUATIONS) {
+            judge(situation.into(), *times, true);
+        }
+        judge(SHARED.into(), self.shared, false);
+        faults
+    }
+}
+
+impl fmt::Display for Tally {
+    fn fmt(&self, out: &mut fmt::Formatter) -> fmt::Result {
+        writeln!(out, "{} traces: {} whole, {} refused", self.traces, self.whole, self.traces - self.whole)?;
+        writeln!(out, "how often each answer number was given:")?;
+        for (number, times) in self.answers.iter().enumerate() {
+            let why = UNREACHED.iter().find(|(unreached, _)| *unreached == number);
+            let note = why.map_or(String::new(), |(_, why)| format!("  ({why})"));
+            writeln!(out, "{number:>4} {times:>10}{note}")?;
+        }
+        writeln!(
+            out,
+            "how often each event was answered with 0 in each phase (collect: the phase was stepped):"
+        )?;
+        writeln!(out, "{:>8} {}", "", (0..7).map(|phase| format!("{phase:>9}")).collect::<String>())?;
+        for (row, (_, name)) in self.done.iter().zip(KINDS) {
+            writeln!(out, "{name:>8} {}", row.map(|times| format!("{times:>9}")).concat())?;
+        }
+        writeln!(out, "how often each kind of damage was done:")?;
+        for (name, times) in &self.damages {
+            writeln!(out, "{times:>10}  {name}")?;
+        }
+        writeln!(out, "how often each situation came up:")?;
+        for (times, situation) in self.situations.iter().zip(SITUATIONS) {
+            writeln!(out, "{times:>10}  {situation}")?;
+        }
+        writeln!(out, "{:>10}  {SHARED}", self.shared)
+    }
+}

@@ -1,0 +1,231 @@
+//! "The trace file" of document 01: the fields, and "Order for a field".
+
+use crate::event::Event;
+use crate::pool::Sizes;
+
+#[derive(Clone, Copy, Debug, PartialEq, Eq)]
+pub enum Field {
+    Sizes(Sizes),
+    Event { step: u32, event: Event },
+    End { count: u32 },
+}
+
+/// What a field's tag says it is.
+#[derive(Clone, Copy, Debug, PartialEq, Eq)]
+pub enum Kind {
+    Sizes,
+    Make,
+    Move,
+    Drop,
+    Load,
+    Store,
+    Collect,
+    End,
+}
+
+impl Kind {
+    pub const ALL: [Kind; 8] =
+        [Kind::Sizes, Kind::Make, Kind::Move, Kind::Drop, Kind::Load, Kind::Store, Kind::Collect, Kind::End];
+
+    pub fn tag(self) -> u8 {
+        match self {
+            Kind::Sizes => 0x01,
+            Kind::Make => 0x10,
+            Kind::Move => 0x11,
+            Kind::Drop => 0x12,
+            Kind::Load => 0x13,
+            Kind::Store => 0x14,
+            Kind::Collect => 0x20,
+            Kind::End => 0x7F,
+        }
+    }
+
+    /// The length that the tag asks for.
+    pub fn length(self) -> usize {
+        match self {
+            Kind::Sizes | Kind::Load | Kind::Store => 8,
+            Kind::Move => 7,
+            Kind::Make | Kind::Drop => 6,
+            Kind::Collect | Kind::End => 4,
+        }
+    }
+
+    pub fn of_tag(tag: u8) -> Option<Kind> {
+        Kind::ALL.into_iter().find(|kind| kind.tag() == tag)
+    }
+
+    /// The event of this kind with the numbers given, if it is an event's kind and they are as
+    /// many as it takes.
+    pub fn event(self, numbers: &[u8]) -> Option<Event> {
+        match (self, numbers) {
+            (Kind::Make, &[w, r]) => Some(Event::Make { w, r }),
+            (Kind::Move, &[w, r, q]) => Some(Event::Move { w, r, q }),
+            (Kind::Drop, &[w, r]) => Some(Event::Drop { w, r }),
+            (Kind::Load, &[w, r, q, f]) => Some(Event::Load { w, r, q, f }),
+            (Kind::Store, &[w, q, f, r]) => Some(Event::Store { w, q, f, r }),
+            (Kind::Collect, &[]) => Some(Event::Collect),
+            _ => None,
+        }
+    }
+}
+
+impl Event {
+    pub fn kind(&self) -> Kind {
+        match self {
+            Event::Make { .. } => Kind::Make,
+            Event::Move { .. } => Kind::Move,
+            Event::Drop { .. } => Kind::Drop,
+            Event::Load { .. } => Kind::Load,
+            Event::Store { .. } => Kind::Store,
+            Event::Collect => Kind::Collect,
+        }
+    }
+
+    /// The numbers after the step number, "one byte each", in the trace's order.
+    pub fn numbers(&self) -> Vec<u8> {
+        match *self {
+            Event::Make { w, r } | Event::Drop { w, r } => vec![w, r],
+            Event::Move { w, r, q } => vec![w, r, q],
+            Event::Load { w, r, q, f } => vec![w, r, q, f],
+            Event::Store { w, q, f, r } => vec![w, q, f, r],
+            Event::Collect => vec![],
+        }
+    }
+}
+
+impl Field {
+    pub fn kind(&self) -> Kind {
+        match self {
+            Field::Sizes(_) => Kind::Sizes,
+            Field::Event { event, .. } => event.kind(),
+            Field::End { .. } => Kind::End,
+        }
+    }
+
+    /// "Fields: tag one byte, length two bytes, payload; all numbers most significant byte first."
+    pub fn bytes(&self) -> Vec<u8> {
+        let payload: Vec<u8> = match self {
+            Field::Sizes(Sizes { n, k, w, r }) => {
+                [n, k, w, r].into_iter().flat_map(|size| size.to_be_bytes()).collect()
+            }
+            Field::Event { step, event } => step.to_be_bytes().into_iter().chain(event.numbers()).collect(),
+            Field::End { count } => count.to_be_bytes().to_vec(),
+        };
+        let mut bytes = vec![self.kind().tag()];
+        bytes.extend((self.kind().length() as u16).to_be_bytes());
+        bytes.extend(payload);
+        bytes
+    }
+}
+
+/// "Order for a field: fewer than three bytes left 9; 7; 8; payload not whole 9": the kind and
+/// the payload of the field that `rest` begins with, or the number it is refused with.
+/// `may_stand` says whether a field of this kind may stand here.
+fn split(rest: &[u8], may_stand: impl Fn(Kind) -> bool) -> Result<(Kind, &[u8]), u8> {
+    let &[tag, high, low, ref after @ ..] = rest else {
+        return Err(9);
+    };
+    let kind = Kind::of_tag(tag).filter(|kind| may_stand(*kind)).ok_or(7)?;
+    if usize::from(u16::from_be_bytes([high, low])) != kind.length() {
+        return Err(8);
+    }
+    let payload = after.get(..kind.length()).ok_or(9)?;
+    Ok((kind, payload))
+}
+
+/// "01: N, K, W, R, two bytes each. Events begin with a four-byte step number, then one byte
+/// each. 7F: number of events, four bytes." The payload has the kind's length.
+fn meaning(kind: Kind, payload: &[u8]) -> Option<Field> {
+    if let (Kind::Sizes, &[a, b, c, d, e, f, g, h]) = (kind, payload) {
+        let [n, k, w, r] = [[a, b], [c, d], [e, f], [g, h]].map(u16::from_be_bytes);
+        return Some(Field::Sizes(Sizes { n, k, w, r }));
+    }
+    let (number, others) = payload.split_first_chunk::<4>()?;
+    let number = u32::from_be_bytes(*number);
+    match kind {
+        Kind::End => Some(Field::End { count: number }),
+        _ => Some(Field::Event { step: number, event: kind.event(others)? }),
+    }
+}
+
+/// The field that `rest` begins with, wherever it may stand and whatever its numbers say.
+pub fn well_formed(rest: &[u8]) -> Option<Field> {
+    let (kind, payload) = split(rest, |_| true).ok()?;
+    meaning(kind, payload)
+}
+
+/// A trace is refused: the answer number, and "the offset of the field's tag or where it would
+/// stand (11: of the extra byte)".
+#[derive(Clone, Copy, Debug, PartialEq, Eq)]
+pub struct Refusal {
+    pub number: u8,
+    pub offset: usize,
+}
+
+/// Reads a trace field by field.
+pub struct Reader<'a> {
+    trace: &'a [u8],
+    offset: usize,
+    last_step: u32,
+    ended: bool,
+}
+
+impl<'a> Reader<'a> {
+    pub fn new(trace: &'a [u8]) -> Reader<'a> {
+        Reader { trace, offset: 0, last_step: 0, ended: false }
+    }
+
+    /// The next field that is taken; nothing after a whole trace.
+    pub fn next_field(&mut self) -> Result<Option<Field>, Refusal> {
+        let refused = |number| Refusal { number, offset: self.offset };
+        let rest = &self.trace[self.offset..];
+        if self.ended {
+            return nothing_after_the_end(rest).map_err(refused);
+        }
+        let field = self.read(rest).map_err(refused)?;
+        self.offset += field.bytes().len();
+        match field {
+            Field::Sizes(_) => {}
+            Field::Event { step, .. } => self.last_step = step,
+            Field::End { .. } => self.ended = true,
+        }
+        Ok(Some(field))
+    }
+
+    /// "Order for a field: fewer than three bytes left 9; 7; 8; payload not whole 9; then 1 for
+    /// sizes, 10 for an event, 12 for the end."
+    fn read(&self, rest: &[u8]) -> Result<Field, u8> {
+        let (kind, payload) = split(rest, |kind| self.may_stand(kind))?;
+        let field = meaning(kind, payload).ok_or(8)?;
+        match field {
+            Field::Sizes(sizes) if !replay_takes(sizes) => Err(1),
+            Field::Event { step, .. } if self.last_step.checked_add(1) != Some(step) => Err(10),
+            Field::End { count } if count != self.last_step => Err(12),
+            _ => Ok(field),
+        }
+    }
+
+    /// "7: tag unknown, first field not the sizes, or sizes a second time": the sizes stand first
+    /// and nowhere else.
+    fn may_stand(&self, kind: Kind) -> bool {
+        (kind == Kind::Sizes) == (self.offset == 0)
+    }
+}
+
+/// "11: a byte after the end field."
+fn nothing_after_the_end(rest: &[u8]) -> Result<Option<Field>, u8> {
+    if rest.is_empty() {
+        Ok(None)
+    } else {
+        Err(11)
+    }
+}
+
+/// The largest sizes of `replay`: "N up to 64, K up to 4, W up to 4, R up to 8".
+pub const LARGEST: Sizes = Sizes { n: 64, k: 4, w: 4, r: 8 };
+
+/// "it takes N up to 64, K up to 4, W up to 4, R up to 8, and answers 1 beyond."
+pub fn replay_takes(sizes: Sizes) -> bool {
+    let pairs = [(sizes.n, LARGEST.n), (sizes.k, LARGEST.k), (sizes.w, LARGEST.w), (sizes.r, LARGEST.r)];
+    pairs.into_iter().all(|(size, largest)| (1..=largest).contains(&size))
+}

@@ -1,0 +1,64 @@
+//! "Worker events" of document 01. Each is called only where `event` refuses nothing, and gives
+//! back the value of its answer.
+
+use crate::pool::{Entry, Link, Pool, Record};
+
+/// "make w r: the lowest free record becomes used, its maker is w + 1, register r holds it.
+/// Nothing else of it is touched. Answer: its number."
+pub fn make(pool: &mut Pool, w: usize, r: usize) -> Option<Record> {
+    let record = pool.lowest_free()?;
+    pool.used.insert(record);
+    pool.makers.insert(record, w);
+    pool.workers[w].registers[r] = Some(record);
+    Some(record)
+}
+
+/// "move w r q: register r takes what q holds. Answer: that value."
+pub fn move_(pool: &mut Pool, w: usize, r: usize, q: usize) -> Option<Record> {
+    let registers = &mut pool.workers[w].registers;
+    registers[r] = registers[q];
+    registers[r]
+}
+
+/// "drop w r: register r becomes none. Answer 0."
+pub fn drop(pool: &mut Pool, w: usize, r: usize) -> Option<Record> {
+    pool.workers[w].registers[r] = None;
+    None
+}
+
+/// "load w r q f: register r takes link f of the record in q. Answer: that value."
+pub fn load(pool: &mut Pool, w: usize, r: usize, q: usize, f: usize) -> Option<Record> {
+    let of = pool.workers[w].registers[q]?;
+    let value = pool.value(Link { of, f });
+    pool.workers[w].registers[r] = value;
+    value
+}
+
+/// "store w q f r: [log the first overwritten value]; the link takes what r holds (none is
+/// allowed); [snoop]. Answer: the value overwritten."
+pub fn store(pool: &mut Pool, w: usize, q: usize, f: usize, r: usize) -> Option<Record> {
+    let of = pool.workers[w].registers[q]?;
+    let link = Link { of, f };
+    let stored = pool.workers[w].registers[r];
+    let overwritten = pool.value(link);
+    log_first_overwritten(pool, w, link);
+    pool.set_value(link, stored);
+    snoop(pool, w, stored);
+    overwritten
+}
+
+/// "if the link's changed mark is off, (link, its value) is added to w's log and the mark goes
+/// on." "A store of an equal value is logged like any other."
+fn log_first_overwritten(pool: &mut Pool, w: usize, link: Link) {
+    if pool.changed.insert(link) {
+        let old = pool.value(link);
+        pool.workers[w].log.push(Entry { link, old });
+    }
+}
+
+/// "if w snoops and the value is not none, that record is marked held."
+fn snoop(pool: &mut Pool, w: usize, stored: Option<Record>) {
+    if pool.workers[w].snoops {
+        pool.held.extend(stored);
+    }
+}
