@@ -5,7 +5,7 @@ use mathlib.Core.List.{List, [], _∷_, flatten, zipWith}
 use lib.Dec.{T}
 use Rattle.rules.specs.Size.{inRange, links, linkNumber}
 use Rattle.rules.specs.Pool.{fresh}
-use Rattle.rules.specs.View.{oldIn, allLogs, loggedOld, viewValue}
+use Rattle.rules.specs.View.{oldIn, lookUp, viewValue}
 use Rattle.rules.specs.Reply.{refusalNumber, number, value}
 use Rattle.rules.specs.Worker.{firstFree, chosen, makes, moves, drops, loads, added, logged, snooped, stores}
 use Rattle.rules.specs.Collect.{phaseAfter, onward, opens, snoops, madeBy, takes, clears, heldBy, scans, falls, rises, counted, counts}
@@ -28,7 +28,7 @@ and-right false b t = absurd t
 
 -- the test over the whole table
 computed : T (every runs)
-unfolding inRange links linkNumber fresh flatten zipWith oldIn allLogs loggedOld viewValue refusalNumber number value firstFree chosen makes moves drops loads added logged snooped stores phaseAfter onward opens snoops madeBy takes clears heldBy scans falls rises counted counts unchangedFrom passes firstPassing reclaimed emptied emptiedFrom frees closes reclaim reclaims phases collects noneFree logFull refusals decide does outcome start answers after freeMarks freeRecords doneFrom runs samePairs sees seesAll holds
+unfolding inRange links linkNumber fresh flatten zipWith oldIn lookUp viewValue refusalNumber number value firstFree chosen makes moves drops loads added logged snooped stores phaseAfter onward opens snoops madeBy takes clears heldBy scans falls rises counted counts unchangedFrom passes firstPassing reclaimed emptied emptiedFrom frees closes reclaim reclaims phases collects noneFree logFull refusals decide does outcome start answers after freeMarks freeRecords doneFrom runs samePairs sees seesAll holds
 computed = tt
 
 each : (rows : List Row) → T (every rows) → Each (λ r. T (holds r)) rows

@@ -8,7 +8,7 @@
 -- A mark or a flag is a Bool, so that it is 0 or 1; a list is as long as it says, so that nothing stands past its length. Both are clauses of "A sound
 -- pool" that only a table can break. Assumes nothing.
 use Prim.Native.Nat.{ℕ, zero, suc}
-use mathlib.Core.Bool.{Bool, true, false}
+use mathlib.Core.Bool.{Bool, false}
 use mathlib.Core.List.{List, []}
 use lib.ListN.{getD, set, replicate}
 use Rattle.rules.specs.declared.Sizes.{Sizes}

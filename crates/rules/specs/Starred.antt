@@ -10,9 +10,8 @@ use mathlib.Core.List.{List, [], _∷_, _++_, map}
 use lib.Dec.{eqb}
 use lib.ListN.{replicate}
 use Rattle.rules.specs.declared.Sizes.{Sizes}
-use Rattle.rules.specs.declared.LinkNumber.{LinkNumber}
 use Rattle.rules.specs.declared.Event.{Event}
-use Rattle.rules.specs.declared.Event.the-variants.{Make, Move, Drop, Load, Store, Collect}
+use Rattle.rules.specs.declared.Event.the-variants.{Make, Drop, Load, Store, Collect}
 use Rattle.rules.specs.declared.Answer.{Answer}
 use Rattle.rules.specs.Pool.{Entry, Pool, usedAt, changedAt, logAt, fresh}
 use Rattle.rules.specs.Reply.{number, value}

@@ -3,7 +3,7 @@
 --     times        how many of some entries are for a link
 --     oldIn        the old value of the first of some entries that is for a link
 --     allLogs      the entries of all logs together
---     loggedOld    the look-up in the logs
+--     lookUp       the look-up in the logs
 --     viewValue    the view value of a link
 -- Assumes nothing.
 use Prim.Native.Nat.{ℕ, _+_}
@@ -33,10 +33,10 @@ oldIn l (e ∷ entries) otherwise = cond (standsFor l e) (e .old) (oldIn l entri
 unfoldable pub allLogs : Pool → List Entry
 allLogs p = flatten (p .workers .log)
 
--- "the old value in the one log entry for it"
-unfoldable pub loggedOld : Pool → LinkNumber → RecordNumber
-loggedOld p l = oldIn l (allLogs p) none
+-- the look-up in the logs: "the old value in the one log entry for it"
+unfoldable pub lookUp : LinkNumber → List (List Entry) → RecordNumber
+lookUp l logs = oldIn l (flatten logs) none
 
 -- "The view value of a link is its value if its changed mark is off, else the old value in the one log entry for it."
 unfoldable pub viewValue : Pool → LinkNumber → RecordNumber
-viewValue p l = cond (changedAt p l) (loggedOld p l) (valueAt p l)
+viewValue p l = cond (changedAt p l) (lookUp l (p .workers .log)) (valueAt p l)

@@ -2,25 +2,26 @@
 --     from-here      the entries from a place on: the one there, and those behind it
 --     core-cleared   the changed mark goes off for the link of the history entry at a place
 -- Assumes nothing.
-use Prim.Native.Nat.{ℕ, suc, _+_, _≤_, _<_}
-use mathlib.Core.Path.{_≡_, refl, sym, ap, _∙_}
+use Prim.Native.Nat.{ℕ, suc, _+_, _<_}
+use mathlib.Core.Path.{_≡_, sym, ap, _∙_}
 use mathlib.Core.Logic.{⊎-elim}
-use mathlib.Core.Bool.{Bool, true, false, cond}
+use mathlib.Core.Bool.{false, cond}
 use mathlib.Core.List.{List, [], _∷_}
 use native.Mathlib.Omega.{arith}
-use lib.ListN.{length, getD, drop, set, length-set}
+use lib.ListN.{length, getD, drop, length-set}
 use lib.Seq.{drop-cons, getD-set-same, getD-set-other}
 use Rattle.rules.specs.declared.Sizes.{Sizes}
 use Rattle.rules.specs.declared.LinkNumber.{LinkNumber}
 use Rattle.rules.specs.Size.{links}
 use Rattle.rules.specs.Pool.{Entry, Pool, valueAt, changedAt, withChanged}
-use Rattle.rules.specs.View.{bit, times, oldIn, allLogs, loggedOld, viewValue}
+use Rattle.rules.specs.View.{bit, times, allLogs, lookUp, viewValue}
 use Rattle.rules.specs.Sound.{EntryInRange}
-use Rattle.soundness.proofs.Lists.{eqb-cases, Each-at}
-use Rattle.soundness.proofs.Entries.{times-cons, times-one, times-none, times-from, oldIn-else}
-use Rattle.soundness.proofs.Tally.{bit-most, tally-same}
+use Rattle.laws.proofs.Tests.{eqb-cases, bit-most}
+use Rattle.laws.proofs.Number.{link-same}
+use Rattle.laws.proofs.Lists.{Each-at}
+use Rattle.laws.proofs.Entries.{times-cons, times-one, times-none, times-from, oldIn-else}
+use Rattle.laws.proofs.Tally.{tally-same}
 use Rattle.soundness.proofs.Core.{Core}
-use Rattle.soundness.proofs.Store.{link-same}
 
 -- how often a link stands in a list from a place on
 pub from-here : (m : LinkNumber) (xs : List Entry) (i : ℕ) (d : Entry) → i < length xs
@@ -55,9 +56,9 @@ module _ {s : Sizes} {p : Pool} (i : ℕ) (c : Core s p (drop i (p .history)) (p
           omega (arith, from-here m (p .history) i d inside, times-none m entry (λ z. n (sym z)), c .marks m k, ap bit same)
 
   view-after : (m : LinkNumber) → times m (p .history) ≡ 0 → viewValue p m ≡ viewValue cleared m
-  unfolding allLogs loggedOld viewValue
+  unfolding allLogs viewValue
   view-after m z =
-      ap (λ b. cond b (loggedOld p m) (valueAt p m)) (sym (getD-set-other (p .links .changed) (entry .link .0) m.0 false false (λ e.
+      ap (λ b. cond b (lookUp m (p .workers .log)) (valueAt p m)) (sym (getD-set-other (p .links .changed) (entry .link .0) m.0 false false (λ e.
       omega (arith, from-here m (p .history) i d inside, times-from m (p .history) i, times-one m entry (sym e)))))
 
   pub core-cleared : Core s cleared (drop (suc i) (p .history)) (p .history)

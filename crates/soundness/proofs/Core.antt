@@ -5,31 +5,29 @@
 --     logs-room, log-room, history-room     so there is room for them
 --     view-low              a view value is a record number
 --     core, core-in         the core of a sound pool, and of one in a phase that is known
---     moved, arrives        a pool with the collector moved, and its soundness from its core
---     onwards               the two ways in which a step moves on
+--     core-moved, sound, arrives     a pool with the collector moved, and its soundness from its core
 -- A step of the collector is then: the core of the pool before, what the step does to the core, and where the collector arrives. Assumes nothing.
-use Prim.Native.Nat.{ℕ, zero, suc, _+_, _≤_, _<_, zero-le}
-use mathlib.Core.Path.{_≡_, refl, sym, ap, _∙_, subst, subst₂}
-use mathlib.Core.Logic.{⊎-elim}
+use Prim.Native.Nat.{ℕ, _+_, _≤_, _<_}
+use mathlib.Core.Path.{_≡_, refl, sym, ap, _∙_, subst}
 use mathlib.Core.Bool.{Bool, true, false, cond}
-use mathlib.Core.List.{List, [], _∷_, _++_}
+use mathlib.Core.List.{List, [], _∷_}
 use native.Mathlib.Omega.{arith}
-use borrow.Author.Tests.{leb-true, leb-false}
-use lib.Dec.{T, leb}
+use lib.Dec.{T}
 use lib.ListN.{length, getD, drop}
 use Rattle.rules.specs.declared.Sizes.{Sizes}
 use Rattle.rules.specs.declared.RecordNumber.{RecordNumber}
 use Rattle.rules.specs.declared.LinkNumber.{LinkNumber}
 use Rattle.rules.specs.declared.Collector.{Collector}
 use Rattle.rules.specs.Size.{links}
-use Rattle.rules.specs.Pool.{Entry, Pool, none, countAt, makerAt, valueAt, changedAt, registerAt, logAt, withCollector}
-use Rattle.rules.specs.View.{bit, times, oldIn, allLogs, loggedOld, viewValue}
-use Rattle.rules.specs.Collect.{phaseAfter, lastOf, onward}
+use Rattle.rules.specs.Pool.{Entry, Pool, countAt, makerAt, valueAt, changedAt, registerAt, logAt, withCollector}
+use Rattle.rules.specs.View.{bit, times, oldIn, allLogs, lookUp, viewValue}
 use Rattle.rules.specs.Sound.{Each, Shaped, EntryInRange, Sound, emptyIn, entriesIn, positions, uncleared, uncounted, outstanding, countsFor, tally}
-use Rattle.soundness.proofs.Lists.{length-flatten}
-use Rattle.soundness.proofs.Entries.{times-append, oldIn-low}
-use Rattle.soundness.proofs.Tally.{bit-most}
-use Rattle.soundness.proofs.Room.{room}
+use Rattle.laws.proofs.Tests.{bit-most}
+use Rattle.laws.proofs.Lists.{length-flatten}
+use Rattle.laws.proofs.Entries.{times-append}
+use Rattle.laws.proofs.LookUp.{lookUp-low}
+use Rattle.laws.proofs.Room.{room}
+use Rattle.laws.proofs.Phases.{moved}
 
 pub record Core (s : Sizes) (p : Pool) (clear count : List Entry) : Type 0 where
   pub shaped : Shaped s p
@@ -64,11 +62,11 @@ module _ {s : Sizes} {p : Pool} {clear count : List Entry} (c : Core s p clear c
 
   -- a view value is a record number
   pub view-low : (l : LinkNumber) → viewValue p l .0 ≤ s .n
-  unfolding viewValue loggedOld
+  unfolding viewValue allLogs
   view-low l = by-mark (changedAt p l)
     where
-      by-mark : (b : Bool) → cond b (loggedOld p l) (valueAt p l) .0 ≤ s .n
-      by-mark true = oldIn-low s l (allLogs p) none (c .logs) zero-le
+      by-mark : (b : Bool) → cond b (lookUp l (p .workers .log)) (valueAt p l) .0 ≤ s .n
+      by-mark true = lookUp-low s l (p .workers .log) (c .logs)
       by-mark false = c .values l
 
 -- ---- the core of a sound pool
@@ -117,12 +115,9 @@ module _ {s : Sizes} {p : Pool} (h : Sound s p) (k : ℕ) (e : p .collector .pha
 
 -- ---- where the collector arrives
 
-abbrev pub moved : ℕ → ℕ → Pool → Pool
-moved phase i p = withCollector (record { phase = phase; position = i; closed = p .collector .closed }) p
-
 -- the core says nothing of the collector's record
 pub core-moved : {s : Sizes} {p : Pool} {clear count : List Entry} (x : Collector) → Core s p clear count → Core s (withCollector x p) clear count
-unfolding allLogs loggedOld viewValue
+unfolding allLogs viewValue
 core-moved x c =
     record {
       shaped = record { records = c .shaped .records; links = c .shaped .links; workers = c .shaped .workers };
@@ -174,27 +169,3 @@ module _ {s : Sizes} {q : Pool} (k i : ℕ) where
       → Sound s (moved k i q)
   unfolding uncleared uncounted positions
   arrives c phase position empty entries = sound (core-moved (moved k i q .collector) c) phase position empty entries
-
--- "The phase changes within the step that did the last position, and the position returns to 0."
-pub onwards : (s : Sizes) (q : Pool) (n k next : ℕ) → q .collector .phase ≡ k → phaseAfter k (q .history) ≡ next
-    → (suc (q .collector .position) < n → Sound s (moved k (suc (q .collector .position)) q))
-    → (n ≤ suc (q .collector .position) → Sound s (moved next 0 q))
-    → Sound s (onward n q)
-unfolding onward
-onwards s q n k next e f stay leave = from (lastOf n q) refl
-  where
-    c : Collector
-    c = q .collector
-
-    last : Collector
-    last = record { phase = phaseAfter (c .phase) (q .history); position = 0; closed = c .closed }
-
-    there : Collector
-    there = record { phase = c .phase; position = suc (c .position); closed = c .closed }
-
-    from : (b : Bool) → lastOf n q ≡ b → Sound s (withCollector (cond b last there) q)
-    from true h =
-        subst (λ (m : ℕ). Sound s (moved m 0 q)) (sym (ap (λ (m : ℕ). phaseAfter m (q .history)) e ∙ f))
-        (leave (leb-true n (suc (c .position)) h))
-    from false h =
-        subst (λ (m : ℕ). Sound s (moved m (suc (c .position)) q)) (sym e) (stay (leb-false n (suc (c .position)) h))

@@ -9,7 +9,7 @@ use Prim.Native.Nat.{ℕ, suc, _+_, _-_, _≤_, _<_, zero-le}
 use mathlib.Core.Path.{_≡_, refl, sym, ap, _∙_}
 use mathlib.Core.Logic.{⊎-elim}
 use mathlib.Core.Bool.{Bool, true, false, cond}
-use mathlib.Core.List.{List, [], _∷_}
+use mathlib.Core.List.{List, []}
 use native.Mathlib.Omega.{arith}
 use lib.Dec.{eqb}
 use lib.ListN.{length, getD, drop, length-set}
@@ -19,15 +19,17 @@ use Rattle.rules.specs.declared.Sizes.{Sizes}
 use Rattle.rules.specs.declared.RecordNumber.{RecordNumber}
 use Rattle.rules.specs.declared.LinkNumber.{LinkNumber}
 use Rattle.rules.specs.Size.{links}
-use Rattle.rules.specs.Pool.{Entry, Pool, none, withRecord, countAt, valueAt, changedAt, withValue, withHistory}
-use Rattle.rules.specs.View.{bit, times, oldIn, allLogs, loggedOld, viewValue}
+use Rattle.rules.specs.Pool.{Entry, Pool, none, withRecord, countAt, valueAt, changedAt, withHistory}
+use Rattle.rules.specs.View.{bit, times, oldIn, allLogs, lookUp, viewValue}
 use Rattle.rules.specs.Collect.{falls, rises, counted, emptied}
-use Rattle.rules.specs.Sound.{EntryInRange, ShapedRecords, tally}
-use Rattle.soundness.proofs.Lists.{eqb-cases, Each-at, ofRecord-same, ofRecord-other, length-withRecord, set-keeps}
-use Rattle.soundness.proofs.Entries.{times-one, times-from, oldIn-here, oldIn-there, oldIn-absent}
-use Rattle.soundness.proofs.Tally.{hit, tally-moved, tally-here}
+use Rattle.rules.specs.Sound.{EntryInRange, ShapedRecords}
+use Rattle.laws.proofs.Tests.{eqb-cases}
+use Rattle.laws.proofs.Number.{record-same}
+use Rattle.laws.proofs.LookUp.{view-unmarked}
+use Rattle.laws.proofs.Lists.{Each-at, ofRecord-same, ofRecord-other, length-withRecord, set-keeps}
+use Rattle.laws.proofs.Entries.{times-one, times-from, oldIn-here, oldIn-there, oldIn-absent}
+use Rattle.laws.proofs.Tally.{hit, tally-moved, tally-here}
 use Rattle.soundness.proofs.Core.{Core, view-low}
-use Rattle.soundness.proofs.Store.{view-unmarked}
 use Rattle.soundness.proofs.Clear.{from-here}
 
 -- ---- one count
@@ -41,7 +43,7 @@ module _ (s : Sizes) (p : Pool) (h : ShapedRecords s (p .records)) (x : RecordNu
       same : x .0 ≡ a .0 → eqb (x .0) (a .0) ≡ true → countAt (falls x p) a + hit x a ≡ countAt p a
       same e on =
           let there : countAt (falls x p) x ≡ countAt p x - 1 = ofRecord-same (p .records .count) x.0 (countAt p x - 1) 0 (omega arith) (omega (arith, h .count)) in
-          let to : x ≡ a = λ j. record { 0 = e j } in
+          let to : x ≡ a = record-same x a e in
           omega (arith, there, ap (λ (y : RecordNumber). countAt (falls x p) y) to, ap (λ (y : RecordNumber). countAt p y) to, ap bit on)
 
       other : (x .0 ≡ a .0 → ⊥) → eqb (x .0) (a .0) ≡ false → countAt (falls x p) a + hit x a ≡ countAt p a
@@ -55,7 +57,7 @@ module _ (s : Sizes) (p : Pool) (h : ShapedRecords s (p .records)) (x : RecordNu
       same : x .0 ≡ a .0 → eqb (x .0) (a .0) ≡ true → countAt (rises x p) a ≡ countAt p a + hit x a
       same e on =
           let there : countAt (rises x p) x ≡ countAt p x + 1 = ofRecord-same (p .records .count) x.0 (countAt p x + 1) 0 (omega arith) (omega (arith, h .count)) in
-          let to : x ≡ a = λ j. record { 0 = e j } in
+          let to : x ≡ a = record-same x a e in
           omega (arith, there, ap (λ (y : RecordNumber). countAt (rises x p) y) to, ap (λ (y : RecordNumber). countAt p y) to, ap bit on)
 
       other : (x .0 ≡ a .0 → ⊥) → eqb (x .0) (a .0) ≡ false → countAt (rises x p) a ≡ countAt p a + hit x a
@@ -145,7 +147,7 @@ module _ {s : Sizes} {p : Pool} (i : ℕ) (c : Core s p [] (drop i (p .history))
       )
 
   pub core-counted : Core s (counted entry p) [] behind
-  unfolding before after counted falls rises allLogs loggedOld viewValue
+  unfolding before after counted falls rises allLogs viewValue
   core-counted =
       record {
         shaped = record { records = shaped-rises s (falls x p) fallen y low-y; links = c .shaped .links; workers = c .shaped .workers };
@@ -183,7 +185,7 @@ module _ {s : Sizes} {p : Pool} (i : ℕ) (c : Core s p [] (drop i (p .history))
 
 -- "After the last, the history is emptied": nothing of it is left to be counted
 pub core-emptied-history : {s : Sizes} {p : Pool} {clear count : List Entry} → Core s p clear count → Core s (withHistory [] p) clear count
-unfolding allLogs loggedOld viewValue times
+unfolding allLogs viewValue times
 core-emptied-history c =
     record {
       shaped = record { records = c .shaped .records; links = c .shaped .links; workers = c .shaped .workers };
@@ -219,8 +221,8 @@ module _ {s : Sizes} {p : Pool} (c : Core s p [] []) (l : LinkNumber) (inside : 
   value-after = view-unmarked (emptied l p) l off ∙ getD-set-same (p .links .value) l.0 none none (omega (arith, c .shaped .links .value))
 
   others-stay : (m : LinkNumber) → m .0 < links s → (m .0 ≡ l .0 → ⊥) → oldIn m [] (viewValue p m) ≡ oldIn m [] (viewValue (emptied l p) m)
-  unfolding oldIn emptied falls allLogs loggedOld viewValue
-  others-stay m k n = ap (cond (changedAt p m) (loggedOld p m)) (sym (getD-set-other (p .links .value) l.0 m.0 none none n))
+  unfolding oldIn emptied falls allLogs viewValue
+  others-stay m k n = ap (cond (changedAt p m) (lookUp m (p .workers .log))) (sym (getD-set-other (p .links .value) l.0 m.0 none none n))
 
   pub core-emptied : Core s (emptied l p) [] []
   unfolding emptied falls allLogs

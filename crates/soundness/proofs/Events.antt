@@ -1,50 +1,24 @@
 -- Each worker event on a sound pool leaves a sound pool. None moves the collector's record or the history, and none changes a value that is counted.
---     decided                an outcome is a refusal, which changes nothing, or what the event does where every test is false
---     chosen-low             the record that a make takes is one, or none
 --     makes-sound .. stores-sound     the events where nothing refuses them
 -- Assumes nothing.
-use Prim.Native.Nat.{ℕ, zero, suc, _+_, _≤_, _<_, zero-le}
-use mathlib.Core.Path.{_≡_, refl, sym, ap, _∙_}
+use Prim.Native.Nat.{ℕ, _+_, _≤_, _<_, zero-le}
+use mathlib.Core.Path.{_≡_, refl, sym, _∙_}
 use mathlib.Core.Bool.{Bool, true, false, cond}
-use mathlib.Core.List.{List, [], _∷_}
 use native.Mathlib.Omega.{arith}
-use lib.ListN.{length}
 use Rattle.rules.specs.declared.Sizes.{Sizes}
 use Rattle.rules.specs.declared.RecordNumber.{RecordNumber}
 use Rattle.rules.specs.declared.LinkNumber.{LinkNumber}
 use Rattle.rules.specs.Size.{linkNumber}
 use Rattle.rules.specs.Pool.{Pool, none, withRecord, registerAt, snoopsAt, withHeld, withValue, withRegister}
-use Rattle.rules.specs.Reply.{Outcome}
-use Rattle.rules.specs.Worker.{firstFree, chosen, makes, moves, drops, loads, mustLog, added, logged, snooped, stores}
-use Rattle.rules.specs.Outcome.{Test, refused, decide}
-use Rattle.rules.specs.Sound.{Each, Sound, uncleared, uncounted}
-use Rattle.soundness.proofs.Lists.{length-withRecord, withRecord-keeps}
+use Rattle.rules.specs.Worker.{chosen, makes, moves, drops, loads, mustLog, added, logged, snooped, stores}
+use Rattle.rules.specs.Sound.{Sound, uncleared, uncounted}
+use Rattle.laws.proofs.Number.{link-inside}
+use Rattle.laws.proofs.Chosen.{chosen-low}
+use Rattle.laws.proofs.Lists.{length-withRecord, withRecord-keeps}
 use Rattle.soundness.proofs.Core.{Core, core}
 use Rattle.soundness.proofs.Parts.{core-register, core-records}
 use Rattle.soundness.proofs.Store.{core-stored}
-use Rattle.soundness.proofs.Reclaim.{link-inside}
 use Rattle.soundness.proofs.Steps.{stays}
-
--- ---- refused or not
-
--- what holds of the pool before, and of the pool after where no test is true, holds of the pool after
-pub decided : (P : Pool → Type 0) (p : Pool) → P p → (tests : List Test) (done : Outcome) → (Each (λ t. t .when ≡ false) tests → P (done .pool))
-    → P (decide p tests done .pool)
-unfolding decide
-decided P p h [] done f = f tt
-decided P p h (t ∷ tests) done f = by-test (t .when) (λ e. decided P p h tests done (λ rest. f (e, rest)))
-  where
-    by-test : (b : Bool) → (b ≡ false → P (decide p tests done .pool)) → P (cond b (refused (t .why) p) (decide p tests done) .pool)
-    by-test true next = h
-    by-test false next = next refl
-
--- ---- the record that a make takes
-
-first-free-low : (a : ℕ) (used : List Bool) → 1 ≤ a → firstFree a used .0 < a + length used
-unfolding firstFree
-first-free-low a [] h = omega arith
-first-free-low a (false ∷ used) h = omega arith
-first-free-low a (true ∷ used) h = omega (arith, first-free-low (suc a) used (omega arith))
 
 -- ---- store: what it logs moves neither the collector's record nor the history
 
@@ -67,9 +41,8 @@ logged-history w l p = by-mark (mustLog p l)
 -- ---- the events
 
 module _ {s : Sizes} {p : Pool} (h : Sound s p) where
-  pub chosen-low : chosen p .0 ≤ s .n
-  unfolding chosen
-  chosen-low = omega (arith, first-free-low 1 (p .records .used) (omega arith), h .shaped .records .used)
+  picked-low : chosen p .0 ≤ s .n
+  picked-low = omega (arith, chosen-low p, h .shaped .records .used)
 
   pub makes-sound : (w r : ℕ) → w < s .w → Sound s (makes w r p .pool)
   unfolding makes
@@ -86,7 +59,7 @@ module _ {s : Sizes} {p : Pool} (h : Sound s p) where
       w
       r
       (chosen p)
-      chosen-low)
+      picked-low)
 
   -- a register takes a record number
   takes-register : (w r : ℕ) (a : RecordNumber) → a .0 ≤ s .n → Sound s (withRegister w r a p)

@@ -2,22 +2,22 @@
 --     getD-same     what stands at every place of a list of one thing
 --     fresh-sound   the fresh pool is sound
 -- Assumes nothing.
-use Prim.Native.Nat.{ℕ, zero, suc, _+_, _≤_, _<_, zero-le}
+use Prim.Native.Nat.{ℕ, zero, suc, _+_, _≤_, zero-le}
 use mathlib.Core.Path.{_≡_, refl, sym, ap, _∙_, subst}
-use mathlib.Core.Bool.{Bool, true, false, cond}
-use mathlib.Core.List.{List, [], _∷_, flatten}
+use mathlib.Core.Bool.{false}
+use mathlib.Core.List.{List, [], flatten}
 use native.Mathlib.Omega.{arith}
 use lib.ListN.{length, getD, replicate, length-replicate, getD-replicate}
 use Rattle.rules.specs.declared.Sizes.{Sizes}
 use Rattle.rules.specs.declared.RecordNumber.{RecordNumber}
 use Rattle.rules.specs.declared.LinkNumber.{LinkNumber}
 use Rattle.rules.specs.Size.{links}
-use Rattle.rules.specs.Pool.{Entry, Pool, none, ofRecord, valueAt, changedAt, fresh}
+use Rattle.rules.specs.Pool.{Entry, none, ofRecord, valueAt, changedAt, fresh}
 use Rattle.rules.specs.View.{bit, times, oldIn, allLogs, viewValue}
 use Rattle.rules.specs.Sound.{Each, EntryInRange, Sound, positions, uncleared, uncounted}
-use Rattle.soundness.proofs.Tally.{tally-nothing}
+use Rattle.laws.proofs.LookUp.{view-unmarked}
+use Rattle.laws.proofs.Tally.{tally-nothing}
 use Rattle.soundness.proofs.Core.{Core, sound}
-use Rattle.soundness.proofs.Store.{view-unmarked}
 
 -- a list of one thing has it at every place, past the end too where it is what stands there
 pub getD-same : {A : Type 0} (n : ℕ) (x : A) (i : ℕ) → getD (replicate n x) i x ≡ x

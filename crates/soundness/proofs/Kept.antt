@@ -4,23 +4,23 @@
 --     event-keeps-sound    every event on a sound pool leaves a sound pool
 --     run-is-sound         a run from the fresh pool is sound at each place
 -- Assumes nothing.
-use Prim.Native.Nat.{ℕ, _≤_, _<_}
-use mathlib.Core.Path.{_≡_, refl}
-use mathlib.Core.Bool.{Bool, true, false, not, _&&_}
+use Prim.Native.Nat.{ℕ, _<_}
+use mathlib.Core.Path.{_≡_}
+use mathlib.Core.Bool.{true, _&&_}
 use mathlib.Core.List.{List, [], _∷_}
-use native.Mathlib.Omega.{arith}
 use lib.ListN.{take}
-use borrow.Author.Tests.{ltb-true, leb-true, eqb-false, not-false}
+use borrow.Author.Tests.{leb-true}
 use Rattle.rules.specs.declared.Sizes.{Sizes}
 use Rattle.rules.specs.declared.Event.{Event}
 use Rattle.rules.specs.declared.Event.the-variants.{Make, Move, Drop, Load, Store, Collect}
 use Rattle.rules.specs.Size.{between, inRange}
-use Rattle.rules.specs.Pool.{Pool, registerAt, fresh}
-use Rattle.rules.specs.Outcome.{hasWorker, hasRegister, hasLink, refusals, does, outcome, after}
+use Rattle.rules.specs.Pool.{Pool, fresh}
+use Rattle.rules.specs.Outcome.{does, outcome, after}
 use Rattle.rules.specs.Sound.{Sound}
-use Rattle.soundness.proofs.Reclaim.{and-left, and-right}
+use Rattle.laws.proofs.Tests.{and-left, and-right}
+use Rattle.laws.proofs.Refusals.{decided, can-make, can-store}
 use Rattle.soundness.proofs.Steps.{collects-sound}
-use Rattle.soundness.proofs.Events.{decided, makes-sound, moves-sound, drops-sound, loads-sound, stores-sound}
+use Rattle.soundness.proofs.Events.{makes-sound, moves-sound, drops-sound, loads-sound, stores-sound}
 use Rattle.soundness.proofs.Fresh.{fresh-sound}
 
 -- the sizes have a worker
@@ -35,22 +35,13 @@ pub fresh-is-sound : (s : Sizes) → Sound s (fresh s)
 fresh-is-sound s = fresh-sound s
 
 pub event-keeps-sound : (s : Sizes) → inRange s ≡ true → (p : Pool) → Sound s p → (e : Event) → Sound s (outcome s p e .pool)
-unfolding outcome refusals does
-event-keeps-sound s r p h (Make w q) =
-    decided (Sound s) p h _ _ (λ t. makes-sound h w q (ltb-true w (s .w) (and-left (hasWorker s w) (hasRegister s q) (not-false _ (t .0)))))
+unfolding outcome does
+event-keeps-sound s r p h (Make w q) = decided (Sound s) p h _ _ (λ t. makes-sound h w q (can-make s p w q t .0 .worker))
 event-keeps-sound s r p h (Move w q f) = decided (Sound s) p h _ _ (λ t. moves-sound h w q f)
 event-keeps-sound s r p h (Drop w q) = decided (Sound s) p h _ _ (λ t. drops-sound h w q)
 event-keeps-sound s r p h (Load w q f g) = decided (Sound s) p h _ _ (λ t. loads-sound h w q f g)
 event-keeps-sound s r p h (Store w q f g) =
-    decided (Sound s) p h _ _ (λ t.
-    let there : (hasWorker s w && hasRegister s q && hasLink s f && hasRegister s g) ≡ true = not-false _ (t .0) in
-    let link : (hasWorker s w && hasRegister s q && hasLink s f) ≡ true = and-left _ (hasRegister s g) there in
-    let worker : (hasWorker s w && hasRegister s q) ≡ true = and-left _ (hasLink s f) link in
-    let some : 1 ≤ registerAt p w q .0 = let full = eqb-false (registerAt p w q .0) 0 (t .1 .0) in omega arith in
-    stores-sound h w q f g
-    (ltb-true w (s .w) (and-left (hasWorker s w) (hasRegister s q) worker))
-    (ltb-true f (s .k) (and-right (hasWorker s w && hasRegister s q) (hasLink s f) link))
-    some)
+    decided (Sound s) p h _ _ (λ t. let k = can-store s p w q f g t in stores-sound h w q f g (k .0 .worker) (k .2 .link) (k .2 .holds))
 event-keeps-sound s r p h Collect = decided (Sound s) p h _ _ (λ t. collects-sound (some-worker s r) h)
 
 -- every pool of a run from a sound one is sound

@@ -9,10 +9,10 @@
 --     one-entry           phase 5: the one entry that the view value looks for exists and is the only one
 --     log-has-room        a store that must log has room
 -- Assumes nothing.
-use Prim.Native.Nat.{ℕ, suc, _+_, _-_, _≤_, _<_, zero-le}
-use mathlib.Core.Path.{_≡_, refl, sym, ap, _∙_, subst}
+use Prim.Native.Nat.{ℕ, _+_, _-_, _≤_, _<_}
+use mathlib.Core.Path.{_≡_, refl, ap, _∙_}
 use mathlib.Core.Bool.{Bool, true, false}
-use mathlib.Core.List.{List, [], _∷_, _++_}
+use mathlib.Core.List.{List, []}
 use native.Mathlib.Omega.{arith}
 use borrow.Author.Tests.{eq-eqb}
 use lib.ListN.{length, getD, length-append}
@@ -22,15 +22,17 @@ use Rattle.rules.specs.declared.LinkNumber.{LinkNumber}
 use Rattle.rules.specs.Size.{links, linkNumber}
 use Rattle.rules.specs.Pool.{Pool, countAt, valueAt, changedAt, registerAt, logAt}
 use Rattle.rules.specs.View.{bit, times, allLogs}
-use Rattle.rules.specs.Collect.{noEntry, entryHere, passes, emptiedFrom}
+use Rattle.rules.specs.Collect.{noEntry, entryHere, emptiedFrom}
 use Rattle.rules.specs.Sound.{Sound, EntryInRange, countsFor}
-use Rattle.soundness.proofs.Lists.{length-flatten, Each-at}
-use Rattle.soundness.proofs.Tally.{hit, tally-most}
-use Rattle.soundness.proofs.Room.{room-left}
+use Rattle.laws.proofs.Number.{link-inside}
+use Rattle.laws.proofs.Search.{Passed}
+use Rattle.laws.proofs.Lists.{length-flatten, Each-at}
+use Rattle.laws.proofs.Tally.{tally-most}
+use Rattle.laws.proofs.Room.{room-left}
 use Rattle.soundness.proofs.Core.{Core, core, core-in, position-in, history-room, times-most, links-in-range}
 use Rattle.soundness.proofs.Take.{core-taken}
-use Rattle.soundness.proofs.Count.{old-counted, entry-in-range, value-counted}
-use Rattle.soundness.proofs.Reclaim.{link-inside, passes-unchanged, emptied-changed, core-emptied-from}
+use Rattle.soundness.proofs.Count.{old-counted, value-counted}
+use Rattle.soundness.proofs.Reclaim.{emptied-changed, core-emptied-from}
 
 module _ {s : Sizes} {p : Pool} (h : Sound s p) where
   -- registers, links and entries hold record numbers 0..N (`registers`, `values`, `logs` and `history` of `Sound`); one that is not none has its place
@@ -69,7 +71,7 @@ module _ {s : Sizes} {p : Pool} (h : Sound s p) where
       )
 
   -- link f of the record that is freed, once the links before it are emptied
-  pub value-has-count : (a : RecordNumber) (f : ℕ) → p .collector .phase ≡ 6 → 1 ≤ a .0 → a .0 ≤ s .n → passes s p a ≡ true → f < s .k
+  pub value-has-count : (a : RecordNumber) (f : ℕ) → p .collector .phase ≡ 6 → 1 ≤ a .0 → a .0 ≤ s .n → Passed s p a → f < s .k
       → 1 ≤ valueAt (emptiedFrom s a 0 f p) (linkNumber s a f) .0
       → 1 ≤ countAt (emptiedFrom s a 0 f p) (valueAt (emptiedFrom s a 0 f p) (linkNumber s a f))
   value-has-count a f e some low pass k there =
@@ -77,7 +79,7 @@ module _ {s : Sizes} {p : Pool} (h : Sound s p) where
       let l : LinkNumber = linkNumber s a f in
       let v : RecordNumber = valueAt q l in
       let c : Core s q [] [] =
-      core-emptied-from s a 0 f p (core-in h 6 e) some low (omega arith) (λ g i j. passes-unchanged s p a pass g (omega arith)) in
+      core-emptied-from s a 0 f p (core-in h 6 e) some low (omega arith) (λ g i j. pass .unchanged g (omega arith)) in
       let off : changedAt q l ≡ false =
-      ap (λ (marks : List Bool). getD marks l.0 false) (emptied-changed s a 0 f p) ∙ passes-unchanged s p a pass f k in
+      ap (λ (marks : List Bool). getD marks l.0 false) (emptied-changed s a 0 f p) ∙ pass .unchanged f k in
       omega (arith, value-counted c l (link-inside s a f some low k) off v there (c .values l), ap bit (eq-eqb v.0 v.0 refl))

@@ -1,5 +1,4 @@
 -- Every event on a sound pool leaves a sound pool. A reader begins at Kept, which states it, and Known, what the code rests on; the rest leads up to them.
---     Lists, Entries, Tally, Room     laws on lists, on the entries for a link, on the tally, and on the room that entries take
 --     Core       the sound pool taken apart: what does not look at the collector's record, and what does
 --     Parts      changes that touch no link, log or count
 --     Store      a store
@@ -9,10 +8,6 @@
 --     Fresh      the fresh pool
 --     Kept       the theorems
 --     Known      facts of every sound pool
-pub mod Lists
-pub mod Entries
-pub mod Tally
-pub mod Room
 pub mod Core
 pub mod Parts
 pub mod Store

@@ -13,14 +13,14 @@ use lib.ListN.{length, getD, set, length-set}
 use Rattle.rules.specs.declared.Sizes.{Sizes}
 use Rattle.rules.specs.declared.RecordNumber.{RecordNumber}
 use Rattle.rules.specs.Pool.{Entry, Pool, none, ofRecord, withRecord, registersAt, withRecords, withRegister, withSnoop}
-use Rattle.rules.specs.View.{allLogs, loggedOld, viewValue}
+use Rattle.rules.specs.View.{allLogs, viewValue}
 use Rattle.rules.specs.Collect.{heldBy}
-use Rattle.soundness.proofs.Lists.{set-keeps, set-keeps-below, length-withRecord}
+use Rattle.laws.proofs.Lists.{set-keeps, set-keeps-below, length-withRecord}
 use Rattle.soundness.proofs.Core.{Core}
 
 module _ {s : Sizes} {p : Pool} {clear count : List Entry} (c : Core s p clear count) where
   pub core-register : (w r : ℕ) (a : RecordNumber) → a .0 ≤ s .n → Core s (withRegister w r a p) clear count
-  unfolding allLogs loggedOld viewValue
+  unfolding allLogs viewValue
   core-register w r a h =
       record {
         shaped =
@@ -59,7 +59,7 @@ module _ {s : Sizes} {p : Pool} {clear count : List Entry} (c : Core s p clear c
   pub core-records : (used held candidate : List Bool) (maker : List ℕ) → length used ≡ s .n → length held ≡ s .n → length candidate ≡ s .n → length maker ≡ s .n
       → ((a : RecordNumber) → ofRecord maker (a .0) 0 ≤ s .w)
       → Core s (withRecords (record { used = used; count = p .records .count; held = held; candidate = candidate; maker = maker }) p) clear count
-  unfolding allLogs loggedOld viewValue
+  unfolding allLogs viewValue
   core-records used held candidate maker hu hh hc hm most =
       record {
         shaped =
@@ -79,7 +79,7 @@ module _ {s : Sizes} {p : Pool} {clear count : List Entry} (c : Core s p clear c
       }
 
   pub core-snoop : (w : ℕ) (x : Bool) → Core s (withSnoop w x p) clear count
-  unfolding allLogs loggedOld viewValue
+  unfolding allLogs viewValue
   core-snoop w x =
       record {
         shaped =

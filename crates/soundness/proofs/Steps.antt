@@ -3,28 +3,31 @@
 --     opens-sound .. reclaims-sound     the steps of phases 0 to 6
 --     collects-sound        the collect event
 -- Assumes nothing.
-use Prim.Native.Nat.{ℕ, zero, suc, _+_, _≤_, _<_}
+use Prim.Native.Nat.{ℕ, zero, suc, _≤_, _<_}
 use mathlib.Core.Path.{_≡_, refl, sym, ap, _∙_, subst}
 use mathlib.Core.Logic.{_⊎_, inl, inr}
 use mathlib.Core.Bool.{Bool, true, false, cond}
-use mathlib.Core.List.{List, [], _∷_, _++_}
+use mathlib.Core.List.{List, [], _++_}
 use native.Mathlib.Omega.{arith}
 use lib.Dec.{T}
-use lib.ListN.{length, getD, drop, drop-of-length-le}
+use lib.ListN.{length, drop, drop-of-length-le}
 use borrow.Author.Tests.{leb-true, leb-false}
 use Rattle.rules.specs.declared.Sizes.{Sizes}
 use Rattle.rules.specs.declared.RecordNumber.{RecordNumber}
 use Rattle.rules.specs.declared.Collector.{Collector}
-use Rattle.rules.specs.Pool.{Entry, Pool, none, registersAt, logAt, withRecords, withHeld, withChanged, withSnoop, withLog, withHistory}
-use Rattle.rules.specs.Collect.{phaseAfter, lastOf, onward, stepped, opens, snoops, madeBy, takes, entryHere, clears, heldBy, scans, falls, rises, counted, counts}
-use Rattle.rules.specs.Collect.{passes, firstPassing, reclaimed, frees, closes, reclaim, reclaims, phases, collects}
+use Rattle.rules.specs.Pool.{Entry, Pool, registersAt, logAt, withHeld, withChanged, withSnoop, withLog, withHistory}
+use Rattle.rules.specs.Collect.{phaseAfter, lastOf, onward, opens, snoops, madeBy, takes, entryHere, clears, heldBy, scans, falls, rises, counted, counts}
+use Rattle.rules.specs.Collect.{passes, reclaimed, frees, closes, reclaim, reclaims, collects}
 use Rattle.rules.specs.Sound.{Sound, emptyIn, entriesIn, positions, uncleared, uncounted}
-use Rattle.soundness.proofs.Core.{Core, core, core-in, position-in, empty-in, moved, sound, core-moved, arrives, onwards, unclearedIn, uncountedIn, positionsIn}
+use Rattle.laws.proofs.Number.{record-same}
+use Rattle.laws.proofs.Search.{passed, reclaimed-passes}
+use Rattle.laws.proofs.Phases.{by-phase, moved, onward-cases, after-snooping, after-taking, after-clearing, after-scanning, after-counting}
+use Rattle.soundness.proofs.Core.{Core, core-in, position-in, empty-in, sound, core-moved, arrives, unclearedIn, uncountedIn, positionsIn}
 use Rattle.soundness.proofs.Parts.{core-records, core-snoop, length-heldBy}
 use Rattle.soundness.proofs.Take.{core-taken, core-made}
 use Rattle.soundness.proofs.Clear.{core-cleared}
 use Rattle.soundness.proofs.Count.{core-counted, core-emptied-history}
-use Rattle.soundness.proofs.Reclaim.{first-passing, emptied-collector, emptied-history, core-freed, core-closed}
+use Rattle.soundness.proofs.Reclaim.{emptied-collector, emptied-history, core-freed, core-closed}
 
 -- ---- an event that leaves the collector and the history as they are
 
@@ -53,21 +56,21 @@ module _ {s : Sizes} {p : Pool} (worker : 0 < s .w) (h : Sound s p) where
   opens-sound e = arrives 1 0 (core-in h 0 e) (omega arith) worker (λ t. empty-in h 0 e tt) (λ t. absurd t)
 
   snoops-sound : p .collector .phase ≡ 1 → Sound s (snoops s p .pool)
-  unfolding snoops phaseAfter
+  unfolding snoops
   snoops-sound e =
       let q : Pool = withSnoop here true p in
       let c : Core s q [] [] = core-snoop (core-in h 1 e) here true in
       let empty : p .history ≡ [] = empty-in h 1 e tt in
-      onwards s q (s .w) 1 2 e (ap (λ (xs : List Entry). phaseAfter 1 xs) empty)
+      onward-cases (Sound s) q (s .w) 1 2 e (after-snooping (p .history))
       (λ k. arrives 1 (suc here) c (omega arith) k (λ t. empty) (λ t. absurd t))
       (λ k. arrives 2 0 (subst (λ (xs : List Entry). Core s q xs xs) (sym empty) c) (omega arith) worker (λ t. absurd t) (λ t. absurd t))
 
   takes-sound : p .collector .phase ≡ 2 → Sound s (takes s p .pool)
-  unfolding takes madeBy phaseAfter
+  unfolding takes madeBy
   takes-sound e =
-      onwards s q (s .w) 2 (phaseAfter 2 (q .history)) e refl
+      onward-cases (Sound s) q (s .w) 2 (phaseAfter 2 (q .history)) e refl
       (λ k. arrives 2 (suc here) c (omega arith) k (λ t. absurd t) (λ t. absurd t))
-      (λ k. leaves (q .history) refl)
+      (λ k. leaves)
     where
       q : Pool
       q = madeBy here (withLog here [] (withHistory (p .history ++ logAt p here) p))
@@ -75,16 +78,18 @@ module _ {s : Sizes} {p : Pool} (worker : 0 < s .w) (h : Sound s p) where
       c : Core s q (q .history) (q .history)
       c = core-made (core-taken (core-in h 2 e) here (position-in h 2 e)) here
 
-      leaves : (xs : List Entry) → q .history ≡ xs → Sound s (moved (phaseAfter 2 xs) 0 q)
-      leaves [] f = arrives 4 0 (subst (λ (xs : List Entry). Core s q xs (q .history)) f c) (omega arith) worker (λ t. absurd t) (λ t. absurd t)
-      leaves (x ∷ xs) f =
+      leaves : Sound s (moved (phaseAfter 2 (q .history)) 0 q)
+      leaves =
+          after-taking (λ next. Sound s (moved next 0 q)) (q .history)
+          (λ f. arrives 4 0 (subst (λ (xs : List Entry). Core s q xs (q .history)) f c) (omega arith) worker (λ t. absurd t) (λ t. absurd t))
+          (λ x xs f.
           let some : 0 < length (q .history) = omega (arith, ap length f) in
-          arrives 3 0 c (omega arith) some (λ t. absurd t) (λ t. some)
+          arrives 3 0 c (omega arith) some (λ t. absurd t) (λ t. some))
 
   clears-sound : p .collector .phase ≡ 3 → Sound s (clears s p .pool)
-  unfolding clears phaseAfter
+  unfolding clears
   clears-sound e =
-      onwards s q (length (p .history)) 3 4 e (next (p .history))
+      onward-cases (Sound s) q (length (p .history)) 3 4 e (after-clearing (p .history))
       (λ k. arrives 3 (suc here) c (omega arith) k (λ t. absurd t) (λ t. omega arith))
       (λ k.
       arrives 4 0 (subst (λ (xs : List Entry). Core s q xs (p .history)) (drop-of-length-le (p .history) k) c) (omega arith) worker
@@ -97,16 +102,12 @@ module _ {s : Sizes} {p : Pool} (worker : 0 < s .w) (h : Sound s p) where
       c : Core s q (drop (suc here) (p .history)) (p .history)
       c = core-cleared here (core-in h 3 e) (position-in h 3 e) _
 
-      next : (xs : List Entry) → phaseAfter 3 xs ≡ 4
-      next [] = refl
-      next (x ∷ xs) = refl
-
   scans-sound : p .collector .phase ≡ 4 → Sound s (scans s p .pool)
-  unfolding scans phaseAfter
+  unfolding scans
   scans-sound e =
-      onwards s q (s .w) 4 (phaseAfter 4 (p .history)) e refl
+      onward-cases (Sound s) q (s .w) 4 (phaseAfter 4 (p .history)) e refl
       (λ k. arrives 4 (suc here) c (omega arith) k (λ t. absurd t) (λ t. absurd t))
-      (λ k. leaves (p .history) refl)
+      (λ k. leaves)
     where
       r : Pool
       r = withSnoop here false p
@@ -126,14 +127,16 @@ module _ {s : Sizes} {p : Pool} (worker : 0 < s .w) (h : Sound s p) where
           (snooped .shaped .records .maker)
           (snooped .makers)
 
-      leaves : (xs : List Entry) → p .history ≡ xs → Sound s (moved (phaseAfter 4 xs) 0 q)
-      leaves [] f = arrives 6 0 (subst (λ (xs : List Entry). Core s q [] xs) f c) (omega arith) (omega arith) (λ t. f) (λ t. absurd t)
-      leaves (x ∷ xs) f =
+      leaves : Sound s (moved (phaseAfter 4 (p .history)) 0 q)
+      leaves =
+          after-scanning (λ next. Sound s (moved next 0 q)) (p .history)
+          (λ f. arrives 6 0 (subst (λ (xs : List Entry). Core s q [] xs) f c) (omega arith) (omega arith) (λ t. f) (λ t. absurd t))
+          (λ x xs f.
           let some : 0 < length (p .history) = omega (arith, ap length f) in
-          arrives 5 0 c (omega arith) some (λ t. absurd t) (λ t. some)
+          arrives 5 0 c (omega arith) some (λ t. absurd t) (λ t. some))
 
   counts-sound : p .collector .phase ≡ 5 → Sound s (counts s p .pool)
-  unfolding counts phaseAfter counted falls rises
+  unfolding counts counted falls rises
   counts-sound e = by-place (lastOf n p) refl
     where
       n : ℕ
@@ -148,14 +151,14 @@ module _ {s : Sizes} {p : Pool} (worker : 0 < s .w) (h : Sound s p) where
       by-place : (b : Bool) → lastOf n p ≡ b → Sound s (onward n (withHistory (cond b [] (p .history)) q))
       by-place true last =
           let over : n ≤ suc here = leb-true n (suc here) last in
-          onwards s (withHistory [] q) n 5 6 e refl (λ k. absurd (omega arith))
+          onward-cases (Sound s) (withHistory [] q) n 5 6 e (after-counting []) (λ k. absurd (omega arith))
           (λ k.
           arrives 6 0 (core-emptied-history (subst (λ (xs : List Entry). Core s q [] xs) (drop-of-length-le (p .history) over) c)) (omega arith) (omega arith)
           (λ t. refl)
           (λ t. absurd t))
       by-place false more =
           let left : suc here < n = leb-false n (suc here) more in
-          onwards s (withHistory (p .history) q) n 5 (phaseAfter 5 (p .history)) e refl
+          onward-cases (Sound s) (withHistory (p .history) q) n 5 6 e (after-counting (p .history))
           (λ k. arrives 5 (suc here) c (omega arith) k (λ t. absurd t) (λ t. omega arith))
           (λ k. absurd (omega arith))
 
@@ -173,38 +176,25 @@ module _ {s : Sizes} {p : Pool} (worker : 0 < s .w) (h : Sound s p) where
       (subst (λ (n : ℕ). Core s (frees s a p) (unclearedIn n here (p .history)) (uncountedIn n here (p .history))) (sym e) c)
 
   reclaims-sound : p .collector .phase ≡ 6 → Sound s (reclaims s p .pool)
-  unfolding reclaims reclaimed reclaim
-  reclaims-sound e = by-number (found .0) refl (first-passing s p 1 (s .n))
+  unfolding reclaims reclaim
+  reclaims-sound e = by-number (found .0) refl (reclaimed-passes s p)
     where
       found : RecordNumber
-      found = firstPassing s p 1 (s .n)
+      found = reclaimed s p
 
       c : Core s p [] []
       c = core-in h 6 e
 
-      empty : p .history ≡ []
-      empty = empty-in h 6 e tt
-
-      by-number : (k : ℕ) → found .0 ≡ k → (found .0 ≡ 0) ⊎ ((passes s p found ≡ true) × (1 ≤ found .0) × (found .0 < 1 + s .n)) → Sound s (reclaim s p k .pool)
-      by-number zero f x = closes-sound c empty
+      by-number : (k : ℕ) → found .0 ≡ k → (found .0 ≡ 0) ⊎ ((passes s p found ≡ true) × (1 ≤ found .0) × (found .0 ≤ s .n)) → Sound s (reclaim s p k .pool)
+      by-number zero f x = closes-sound c (empty-in h 6 e tt)
       by-number (suc i) f (inl z) = absurd (omega arith)
       by-number (suc i) f (inr x) =
           let a : RecordNumber = record { 0 = suc i } in
-          let same : found ≡ a = λ j. record { 0 = f j } in
-          frees-sound a e (core-freed s a p c (omega arith) (omega (arith, x .2)) (subst (λ (b : RecordNumber). passes s p b ≡ true) same (x .0)))
+          let pass : passes s p a ≡ true = subst (λ (b : RecordNumber). passes s p b ≡ true) (record-same found a f) (x .0) in
+          frees-sound a e (core-freed s a p c (omega arith) (omega (arith, x .2)) (passed s p a pass))
 
   -- ---- the collect event
 
   pub collects-sound : Sound s (collects s p .pool)
-  unfolding collects phases
-  collects-sound = in-phase (p .collector .phase) refl (h .phase)
-    where
-      in-phase : (k : ℕ) → p .collector .phase ≡ k → k ≤ 6 → Sound s (getD phases k (λ s p. stepped p) s p .pool)
-      in-phase zero e l = opens-sound e
-      in-phase (suc zero) e l = snoops-sound e
-      in-phase (suc (suc zero)) e l = takes-sound e
-      in-phase (suc (suc (suc zero))) e l = clears-sound e
-      in-phase (suc (suc (suc (suc zero)))) e l = scans-sound e
-      in-phase (suc (suc (suc (suc (suc zero))))) e l = counts-sound e
-      in-phase (suc (suc (suc (suc (suc (suc zero)))))) e l = reclaims-sound e
-      in-phase (suc (suc (suc (suc (suc (suc (suc k))))))) e l = absurd (omega arith)
+  collects-sound =
+      by-phase s p (λ o. Sound s (o .pool)) (h .phase) opens-sound snoops-sound takes-sound clears-sound scans-sound counts-sound reclaims-sound

@@ -1,7 +1,5 @@
 -- A store keeps the core. It changes no value that is counted: on a link whose mark is off it logs the very value that the link counts for, and on a link
 -- whose mark is on only the present value moves.
---     link-same                        two link numbers with one number are one
---     view-marked, view-unmarked       the view value, by the mark
 --     core-value                       a link whose mark is on takes another value
 --     core-added                       a link whose mark is off is logged and takes another value
 --     core-stored                      a store
@@ -19,33 +17,23 @@ use Rattle.rules.specs.declared.RecordNumber.{RecordNumber}
 use Rattle.rules.specs.declared.LinkNumber.{LinkNumber}
 use Rattle.rules.specs.Size.{links}
 use Rattle.rules.specs.Pool.{Entry, Pool, none, valueAt, changedAt, logAt, withValue}
-use Rattle.rules.specs.View.{bit, times, oldIn, allLogs, loggedOld, viewValue}
+use Rattle.rules.specs.View.{bit, times, oldIn, allLogs, lookUp, viewValue}
 use Rattle.rules.specs.Worker.{added, logged}
-use Rattle.rules.specs.Sound.{Each, EntryInRange, tally}
-use Rattle.soundness.proofs.Lists.{eqb-cases, set-keeps, Each-append, Each-flatten, Each-flatten-set}
-use Rattle.soundness.proofs.Entries.{times-append, times-one, times-none, times-logs, oldIn-more, oldIn-added}
-use Rattle.soundness.proofs.Tally.{tally-same}
+use Rattle.rules.specs.Sound.{EntryInRange}
+use Rattle.laws.proofs.Tests.{eqb-cases}
+use Rattle.laws.proofs.Number.{link-same}
+use Rattle.laws.proofs.Lists.{set-keeps, Each-append, Each-flatten, Each-flatten-set}
+use Rattle.laws.proofs.Entries.{times-append, times-one, times-none}
+use Rattle.laws.proofs.LookUp.{times-logs, lookUp-more, lookUp-added, view-marked, view-unmarked}
+use Rattle.laws.proofs.Tally.{tally-same}
 use Rattle.soundness.proofs.Core.{Core}
-
-pub link-same : (l m : LinkNumber) → l .0 ≡ m .0 → l ≡ m
-link-same l m e = λ j. record { 0 = e j }
-
--- ---- the view value
-
-pub view-marked : (p : Pool) (l : LinkNumber) → changedAt p l ≡ true → viewValue p l ≡ loggedOld p l
-unfolding viewValue
-view-marked p l e = ap (λ b. cond b (loggedOld p l) (valueAt p l)) e
-
-pub view-unmarked : (p : Pool) (l : LinkNumber) → changedAt p l ≡ false → viewValue p l ≡ valueAt p l
-unfolding viewValue
-view-unmarked p l e = ap (λ b. cond b (loggedOld p l) (valueAt p l)) e
 
 -- ---- a store
 
 module _ {s : Sizes} {p : Pool} {clear count : List Entry} (c : Core s p clear count) (l : LinkNumber) (a : RecordNumber) (low : a .0 ≤ s .n) where
   -- the mark is on
   view-value : changedAt p l ≡ true → (m : LinkNumber) → viewValue p m ≡ viewValue (withValue l a p) m
-  unfolding allLogs loggedOld viewValue
+  unfolding allLogs viewValue
   view-value on m = ⊎-elim (λ x. here (x .0)) (λ x. there (x .0)) (eqb-cases m.0 l.0)
     where
       here : m .0 ≡ l .0 → viewValue p m ≡ viewValue (withValue l a p) m
@@ -54,10 +42,10 @@ module _ {s : Sizes} {p : Pool} {clear count : List Entry} (c : Core s p clear c
           (view-marked p l on ∙ sym (view-marked (withValue l a p) l on))
 
       there : (m .0 ≡ l .0 → ⊥) → viewValue p m ≡ viewValue (withValue l a p) m
-      there d = ap (cond (changedAt p m) (loggedOld p m)) (sym (getD-set-other (p .links .value) l.0 m.0 a none d))
+      there d = ap (cond (changedAt p m) (lookUp m (p .workers .log))) (sym (getD-set-other (p .links .value) l.0 m.0 a none d))
 
   pub core-value : changedAt p l ≡ true → Core s (withValue l a p) clear count
-  unfolding allLogs loggedOld
+  unfolding allLogs
   core-value on =
       record {
         shaped =
@@ -121,18 +109,18 @@ module _ {s : Sizes} {p : Pool} {clear count : List Entry} (c : Core s p clear c
             omega (arith, more, split, times-none m entry (λ z. d (sym z)), c .marks m k, ap bit same)
 
     view-after : (m : LinkNumber) → viewValue p m ≡ viewValue stored m
-    unfolding added allLogs loggedOld viewValue
+    unfolding added allLogs viewValue
     view-after m = ⊎-elim (λ x. here (x .0)) (λ x. there (x .0)) (eqb-cases m.0 l.0)
       where
         here : m .0 ≡ l .0 → viewValue p m ≡ viewValue stored m
         here e =
             subst (λ (i : LinkNumber). viewValue p i ≡ viewValue stored i) (sym (link-same m l e))
-            (view-unmarked p l off ∙ sym (view-marked stored l on-after ∙ oldIn-added l logs w there-is entry none refl nowhere))
+            (view-unmarked p l off ∙ sym (view-marked stored l on-after ∙ lookUp-added l logs w there-is entry refl nowhere))
 
         there : (m .0 ≡ l .0 → ⊥) → viewValue p m ≡ viewValue stored m
         there d =
             let mark : changedAt p m ≡ changedAt stored m = sym (getD-set-other (p .links .changed) l.0 m.0 true false d) in
-            let old : loggedOld p m ≡ loggedOld stored m = sym (oldIn-more m logs w there-is entry none (λ z. d (sym z))) in
+            let old : lookUp m (p .workers .log) ≡ lookUp m (stored .workers .log) = sym (lookUp-more m logs w there-is entry (λ z. d (sym z))) in
             let value : valueAt p m ≡ valueAt stored m = sym (getD-set-other (p .links .value) l.0 m.0 a none d) in
             λ i. cond (mark i) (old i) (value i)
 

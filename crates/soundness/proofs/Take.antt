@@ -3,32 +3,28 @@
 --     core-made      every record of which it is maker becomes a candidate with maker 0
 -- Assumes nothing.
 use Prim.Native.Nat.{ℕ, _+_, _≤_, _<_, zero-le}
-use mathlib.Core.Path.{_≡_, refl, sym, ap, _∙_, subst}
+use mathlib.Core.Path.{_≡_, sym, ap, _∙_}
 use mathlib.Core.Logic.{⊎-elim}
 use mathlib.Core.Bool.{Bool, true, false, cond, _||_}
-use mathlib.Core.List.{List, [], _∷_, _++_, flatten, map, zipWith}
+use mathlib.Core.List.{List, [], _++_, flatten, map, zipWith}
 use native.Mathlib.Omega.{arith}
 use native.Mathlib.Nat.{eq-zero-or-pos}
 use lib.Dec.{eqb}
-use lib.ListN.{length, getD, set, length-set, length-map}
+use lib.ListN.{length, set, length-set, length-map}
 use Rattle.rules.specs.declared.Sizes.{Sizes}
-use Rattle.rules.specs.declared.RecordNumber.{RecordNumber}
 use Rattle.rules.specs.declared.LinkNumber.{LinkNumber}
 use Rattle.rules.specs.Size.{links}
-use Rattle.rules.specs.Pool.{Entry, Pool, none, ofRecord, valueAt, changedAt, logAt, withHistory, withLog}
-use Rattle.rules.specs.View.{bit, times, oldIn, allLogs, loggedOld, viewValue}
+use Rattle.rules.specs.Pool.{Entry, Pool, valueAt, changedAt, logAt, withHistory, withLog}
+use Rattle.rules.specs.View.{times, oldIn, allLogs, viewValue}
 use Rattle.rules.specs.Collect.{madeBy}
-use Rattle.rules.specs.Sound.{Each, EntryInRange}
-use Rattle.soundness.proofs.Lists.{Each-append, Each-flatten, Each-flatten-set, length-zipWith, map-ofRecord-keeps}
-use Rattle.soundness.proofs.Entries.{times-append, times-logs, oldIn-append, oldIn-absent, oldIn-else, oldIn-without, oldIn-first}
-use Rattle.soundness.proofs.Tally.{bit-most, tally-same}
+use Rattle.rules.specs.Sound.{EntryInRange}
+use Rattle.laws.proofs.Tests.{bit-most, bit-on}
+use Rattle.laws.proofs.Lists.{Each-append, Each-flatten, Each-flatten-set, length-zipWith, map-ofRecord-keeps}
+use Rattle.laws.proofs.Entries.{times-append, oldIn-append, oldIn-absent, oldIn-else}
+use Rattle.laws.proofs.LookUp.{times-logs, lookUp-without, lookUp-first, view-marked}
+use Rattle.laws.proofs.Tally.{tally-same}
 use Rattle.soundness.proofs.Core.{Core, times-most}
 use Rattle.soundness.proofs.Parts.{core-records}
-use Rattle.soundness.proofs.Store.{view-marked}
-
-pub bit-on : (b : Bool) → 0 < bit b → b ≡ true
-bit-on true h = refl
-bit-on false h = absurd (omega arith)
 
 module _ {s : Sizes} {p : Pool} (c : Core s p (p .history) (p .history)) (w : ℕ) (worker : w < s .w) where
   abbrev logs : List (List Entry)
@@ -53,18 +49,18 @@ module _ {s : Sizes} {p : Pool} (c : Core s p (p .history) (p .history)) (w : �
   times-log m = omega (arith, times-logs m logs w there-is [])
 
   view-taken : (m : LinkNumber) → m .0 < links s → viewValue p m ≡ oldIn m (logAt p w) (viewValue taken m)
-  unfolding allLogs loggedOld viewValue
+  unfolding allLogs viewValue
   view-taken m k = ⊎-elim absent present (eq-zero-or-pos (times m (logAt p w)))
     where
       absent : times m (logAt p w) ≡ 0 → viewValue p m ≡ oldIn m (logAt p w) (viewValue taken m)
       absent z =
-          ap (λ x. cond (changedAt p m) x (valueAt p m)) (sym (oldIn-without m logs w there-is none z))
+          ap (λ x. cond (changedAt p m) x (valueAt p m)) (sym (lookUp-without m logs w there-is z))
           ∙ sym (oldIn-absent m (logAt p w) (viewValue taken m) z)
 
       present : 0 < times m (logAt p w) → viewValue p m ≡ oldIn m (logAt p w) (viewValue taken m)
       present h =
           view-marked p m (bit-on (changedAt p m) (omega (arith, c .marks m k, times-log m)))
-          ∙ oldIn-first m logs w there-is none (viewValue taken m) (times-most c m k) h
+          ∙ lookUp-first m logs w there-is (viewValue taken m) (times-most c m k) h
 
   pub core-taken : Core s taken history history
   unfolding allLogs

@@ -6,9 +6,8 @@
 --     tally-nothing   no link is taken to a record: its tally is 0
 -- Assumes nothing.
 use Prim.Native.Nat.{ℕ, zero, suc, _+_, _≤_, _<_}
-use mathlib.Core.Path.{_≡_, refl, sym, ap, _∙_}
+use mathlib.Core.Path.{_≡_, refl, ap, _∙_}
 use mathlib.Core.Logic.{⊎-elim}
-use mathlib.Core.Bool.{Bool, true, false}
 use native.Mathlib.Omega.{arith}
 use native.Mathlib.Nat.{eq-or-lt-of-le, le-of-suc-le-suc}
 use borrow.Author.Tests.{ne-eqb}
@@ -17,14 +16,12 @@ use Rattle.rules.specs.declared.LinkNumber.{LinkNumber}
 use Rattle.rules.specs.declared.RecordNumber.{RecordNumber}
 use Rattle.rules.specs.View.{bit}
 use Rattle.rules.specs.Sound.{tally}
+use Rattle.laws.proofs.Tests.{bit-most}
+use Rattle.laws.proofs.Number.{link-same}
 
 -- whether a record is the one that is counted for, as a number
 abbrev pub hit : RecordNumber → RecordNumber → ℕ
 hit x a = bit (eqb (x .0) (a .0))
-
-pub bit-most : (b : Bool) → bit b ≤ 1
-bit-most true = omega arith
-bit-most false = omega arith
 
 pub tally-same : (f g : LinkNumber → RecordNumber) (m : ℕ) (a : RecordNumber) → ((l : LinkNumber) → l .0 < m → f l ≡ g l) → tally f m a ≡ tally g m a
 unfolding tally
@@ -46,7 +43,7 @@ tally-moved f g i (suc m) a k h =
 
     last : i .0 ≡ m → tally g (suc m) a + hit (f i) a ≡ tally f (suc m) a + hit (g i) a
     last e =
-        let same : i ≡ top = λ j. record { 0 = e j } in
+        let same : i ≡ top = link-same i top e in
         let there : hit (f i) a ≡ hit (f top) a = ap (λ (l : LinkNumber). hit (f l) a) same in
         let there′ : hit (g i) a ≡ hit (g top) a = ap (λ (l : LinkNumber). hit (g l) a) same in
         let rest : tally f m a ≡ tally g m a = tally-same f g m a (λ l q. h l (omega arith) (λ z. omega arith)) in
@@ -65,7 +62,7 @@ tally-here f i (suc m) a k = ⊎-elim last (λ q. omega (arith, tally-here f i m
     last : i .0 ≡ m → hit (f i) a ≤ tally f (suc m) a
     last e =
         let top : LinkNumber = record { 0 = m } in
-        let there : hit (f i) a ≡ hit (f top) a = ap (λ (l : LinkNumber). hit (f l) a) (λ j. record { 0 = e j }) in
+        let there : hit (f i) a ≡ hit (f top) a = ap (λ (l : LinkNumber). hit (f l) a) (link-same i top e) in
         omega arith
 
 pub tally-most : (f : LinkNumber → RecordNumber) (m : ℕ) (a : RecordNumber) → tally f m a ≤ m

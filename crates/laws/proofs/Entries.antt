@@ -2,29 +2,24 @@
 --     times-append, oldIn-append      of two lists of entries, one after the other
 --     oldIn-absent, oldIn-present, oldIn-else     where no entry is for the link, and where one is
 --     times-one, times-none, times-cons, oldIn-here, oldIn-there     the first entry is for the link, or for another
---     times-logs                      all logs, where one of them is written
---     oldIn-without, oldIn-first, oldIn-more, oldIn-added     the look-up in all logs, where one of them is emptied or gets an entry more
 --     oldIn-low                       a bound on the old values
 --     times-from                      the entries of a list from a place on
 -- Assumes nothing.
-use Prim.Native.Nat.{ℕ, zero, suc, _+_, _≤_, _<_}
+use Prim.Native.Nat.{ℕ, _+_, _≤_, _<_}
 use mathlib.Core.Path.{_≡_, refl, sym, ap, _∙_}
 use mathlib.Core.Logic.{⊎-elim}
 use mathlib.Core.Bool.{Bool, true, false, cond}
-use mathlib.Core.List.{List, [], _∷_, _++_, flatten}
+use mathlib.Core.List.{List, [], _∷_, _++_}
 use native.Mathlib.Omega.{arith}
 use native.Mathlib.Nat.{eq-zero-or-pos}
 use borrow.Author.Tests.{eq-eqb, ne-eqb}
-use lib.Dec.{eqb}
-use lib.ListN.{length, getD, take, drop, set, take-append-drop}
-use lib.Seq.{drop-cons}
+use lib.ListN.{take, drop, take-append-drop}
 use Rattle.rules.specs.declared.Sizes.{Sizes}
 use Rattle.rules.specs.declared.LinkNumber.{LinkNumber}
 use Rattle.rules.specs.declared.RecordNumber.{RecordNumber}
 use Rattle.rules.specs.Pool.{Entry}
 use Rattle.rules.specs.View.{bit, standsFor, times, oldIn}
 use Rattle.rules.specs.Sound.{Each, EntryInRange}
-use Rattle.soundness.proofs.Lists.{flatten-at, flatten-set}
 
 -- ---- one list after another
 
@@ -83,77 +78,6 @@ oldIn-here l e xs a h = ap (λ b. cond b (e .old) (oldIn l xs a)) (eq-eqb (e .li
 pub oldIn-there : (l : LinkNumber) (e : Entry) (xs : List Entry) (a : RecordNumber) → (e .link .0 ≡ l .0 → ⊥) → oldIn l (e ∷ xs) a ≡ oldIn l xs a
 unfolding oldIn
 oldIn-there l e xs a h = ap (λ b. cond b (e .old) (oldIn l xs a)) (ne-eqb (e .link .0) (l .0) h)
-
--- ---- all logs, of which one is written
-
-module _ (l : LinkNumber) (logs : List (List Entry)) (w : ℕ) (here : w < length logs) where
-  before : List Entry
-  before = flatten (take w logs)
-
-  behind : List Entry
-  behind = flatten (drop (suc w) logs)
-
-  times-at : times l (flatten logs) ≡ times l before + (times l (getD logs w []) + times l behind)
-  unfolding before behind
-  times-at =
-      ap (times l) (flatten-at logs w here)
-      ∙ times-append l before (getD logs w [] ++ behind)
-      ∙ ap (λ (n : ℕ). times l before + n) (times-append l (getD logs w []) behind)
-
-  times-set : (xs : List Entry) → times l (flatten (set logs w xs)) ≡ times l before + (times l xs + times l behind)
-  unfolding before behind
-  times-set xs =
-      ap (times l) (flatten-set logs w xs here)
-      ∙ times-append l before (xs ++ behind)
-      ∙ ap (λ (n : ℕ). times l before + n) (times-append l xs behind)
-
-  pub times-logs : (xs : List Entry) → times l (flatten (set logs w xs)) + times l (getD logs w []) ≡ times l (flatten logs) + times l xs
-  times-logs xs = omega (arith, times-at, times-set xs)
-
-  old-at : (a : RecordNumber) → oldIn l (flatten logs) a ≡ oldIn l before (oldIn l (getD logs w []) (oldIn l behind a))
-  unfolding before behind
-  old-at a =
-      ap (λ es. oldIn l es a) (flatten-at logs w here)
-      ∙ oldIn-append l before (getD logs w [] ++ behind) a
-      ∙ ap (oldIn l before) (oldIn-append l (getD logs w []) behind a)
-
-  old-set : (xs : List Entry) (a : RecordNumber) → oldIn l (flatten (set logs w xs)) a ≡ oldIn l before (oldIn l xs (oldIn l behind a))
-  unfolding before behind
-  old-set xs a =
-      ap (λ es. oldIn l es a) (flatten-set logs w xs here)
-      ∙ oldIn-append l before (xs ++ behind) a
-      ∙ ap (oldIn l before) (oldIn-append l xs behind a)
-
-  -- a log that says nothing of the link is emptied
-  pub oldIn-without : (a : RecordNumber) → times l (getD logs w []) ≡ 0 → oldIn l (flatten (set logs w [])) a ≡ oldIn l (flatten logs) a
-  unfolding oldIn
-  oldIn-without a h =
-      old-set [] a ∙ ap (oldIn l before) (sym (oldIn-absent l (getD logs w []) (oldIn l behind a) h)) ∙ sym (old-at a)
-
-  -- where one entry of all logs is for the link, and it stands in this log, the look-up in this log finds it
-  pub oldIn-first : (a b : RecordNumber) → times l (flatten logs) ≤ 1 → 0 < times l (getD logs w []) → oldIn l (flatten logs) a ≡ oldIn l (getD logs w []) b
-  oldIn-first a b h k =
-      old-at a
-      ∙ oldIn-absent l before (oldIn l (getD logs w []) (oldIn l behind a)) (omega (arith, times-at))
-      ∙ oldIn-present l (getD logs w []) (oldIn l behind a) b k
-
-  -- the log gets an entry more, for another link
-  pub oldIn-more : (e : Entry) (a : RecordNumber) → (e .link .0 ≡ l .0 → ⊥) → oldIn l (flatten (set logs w (getD logs w [] ++ (e ∷ [])))) a ≡ oldIn l (flatten logs) a
-  unfolding oldIn
-  oldIn-more e a h =
-      old-set (getD logs w [] ++ (e ∷ [])) a
-      ∙ ap (oldIn l before) (oldIn-append l (getD logs w []) (e ∷ []) (oldIn l behind a)
-      ∙ ap (oldIn l (getD logs w [])) (oldIn-there l e [] (oldIn l behind a) h))
-      ∙ sym (old-at a)
-
-  -- the log gets an entry more, for this link, of which no log said anything
-  pub oldIn-added : (e : Entry) (a : RecordNumber) → e .link .0 ≡ l .0 → times l (flatten logs) ≡ 0 → oldIn l (flatten (set logs w (getD logs w [] ++ (e ∷ [])))) a ≡ e .old
-  oldIn-added e a h k =
-      old-set (getD logs w [] ++ (e ∷ [])) a
-      ∙ oldIn-absent l before (oldIn l (getD logs w [] ++ (e ∷ [])) (oldIn l behind a)) (omega (arith, times-at))
-      ∙ oldIn-append l (getD logs w []) (e ∷ []) (oldIn l behind a)
-      ∙ oldIn-absent l (getD logs w []) (oldIn l (e ∷ []) (oldIn l behind a)) (omega (arith, times-at))
-      ∙ oldIn-here l e [] (oldIn l behind a) h
 
 -- ---- a bound on the old values
 

@@ -1,5 +1,4 @@
 -- Laws on lists that speak of no pool.
---     eqb-cases                               a test of two numbers, and what it tells
 --     flatten-at, flatten-set                 a list of lists joined, taken apart at one of them
 --     length-flatten                          one of them is no longer than all joined
 --     Each-append, Each-left, Each-right, Each-at, Each-flatten, Each-flatten-set    what holds of each element
@@ -9,27 +8,13 @@
 -- Assumes nothing.
 use Prim.Native.Nat.{ℕ, zero, suc, _≤_, _<_, zero-le, suc-le-suc}
 use mathlib.Core.Path.{_≡_, refl, sym, ap, _∙_}
-use mathlib.Core.Logic.{_⊎_, inl, inr}
-use mathlib.Core.Bool.{Bool, true, false}
 use mathlib.Core.List.{List, [], _∷_, _++_, flatten, append-assoc, map, zipWith}
 use native.Mathlib.Omega.{arith}
 use native.Mathlib.Nat.{le-of-suc-le-suc, not-suc-le-zero}
-use native.Mathlib.Decide.{ℕ-discrete}
-use borrow.Author.Tests.{eq-eqb, ne-eqb}
-use lib.Dec.{eqb}
 use lib.ListN.{length, getD, take, drop, set, length-append, length-set}
 use lib.Seq.{getD-set-same, getD-set-other}
 use Rattle.rules.specs.Pool.{ofRecord, withRecord}
 use Rattle.rules.specs.Sound.{Each}
-
--- ---- a test of two numbers
-
-pub eqb-cases : (m n : ℕ) → ((m ≡ n) × (eqb m n ≡ true)) ⊎ ((m ≡ n → ⊥) × (eqb m n ≡ false))
-eqb-cases m n = from (ℕ-discrete m n)
-  where
-    from : Dec (m ≡ n) → ((m ≡ n) × (eqb m n ≡ true)) ⊎ ((m ≡ n → ⊥) × (eqb m n ≡ false))
-    from (yes e) = inl (e, eq-eqb m n e)
-    from (no d) = inr (d, ne-eqb m n d)
 
 -- ---- a list of lists joined
 

@@ -4,7 +4,7 @@
 --     room, room-left     at most one entry for each link: at most as many entries as links; and fewer, where a link has none
 -- Assumes nothing.
 use Prim.Native.Nat.{ℕ, zero, suc, _+_, _≤_, _<_}
-use mathlib.Core.Path.{_≡_, refl, sym, ap, _∙_}
+use mathlib.Core.Path.{_≡_, refl, sym, ap}
 use mathlib.Core.Logic.{⊎-elim}
 use mathlib.Core.List.{List, [], _∷_}
 use native.Mathlib.Omega.{arith}
@@ -16,6 +16,7 @@ use Rattle.rules.specs.declared.LinkNumber.{LinkNumber}
 use Rattle.rules.specs.Pool.{Entry}
 use Rattle.rules.specs.View.{bit, standsFor, times}
 use Rattle.rules.specs.Sound.{Each}
+use Rattle.laws.proofs.Number.{link-same}
 
 sum : (LinkNumber → ℕ) → ℕ → ℕ
 sum f zero = 0
@@ -66,7 +67,7 @@ sum-less f i (suc m) k z h =
     last : i .0 ≡ m → sum f (suc m) < suc m
     last e =
         let top : LinkNumber = record { 0 = m } in
-        let there : f i ≡ f top = ap f (λ j. record { 0 = e j }) in
+        let there : f i ≡ f top = ap f (link-same i top e) in
         omega (arith, sum-most f m (λ l q. h l (omega arith)))
 
     earlier : sum f m < m → sum f (suc m) < suc m

@@ -1,0 +1,91 @@
+-- What is known of an event that is not refused, and of one that is.
+--     decided                 what holds of the pool before, and of the pool after where no test is true, holds of the pool after
+--     RegisterThere, LinkThere     the worker and its register, the link of the record that a register holds are there
+--     can-make .. can-store   what is known where none of the tests of an event is true
+-- Assumes nothing.
+use Prim.Native.Nat.{ℕ, _≤_, _<_}
+use mathlib.Core.Path.{_≡_, refl}
+use mathlib.Core.Bool.{Bool, true, false, cond, _&&_}
+use mathlib.Core.List.{List, [], _∷_}
+use native.Mathlib.Omega.{arith}
+use borrow.Author.Tests.{ltb-true, eqb-false, not-false}
+use Rattle.rules.specs.declared.Sizes.{Sizes}
+use Rattle.rules.specs.declared.Event.the-variants.{Make, Move, Drop, Load, Store}
+use Rattle.rules.specs.Pool.{Pool, registerAt}
+use Rattle.rules.specs.Reply.{Outcome}
+use Rattle.rules.specs.Worker.{chosen}
+use Rattle.rules.specs.Outcome.{Test, hasWorker, hasRegister, hasLink, noneFree, refusals, refused, decide}
+use Rattle.rules.specs.Sound.{Each}
+use Rattle.laws.proofs.Tests.{and-left, and-right}
+
+-- ---- refused or not
+
+-- no test is true
+abbrev pub Unrefused : List Test → Type 0
+Unrefused tests = Each (λ t. t .when ≡ false) tests
+
+pub decided : (P : Pool → Type 0) (p : Pool) → P p → (tests : List Test) (done : Outcome) → (Unrefused tests → P (done .pool)) → P (decide p tests done .pool)
+unfolding decide
+decided P p h [] done f = f tt
+decided P p h (t ∷ tests) done f = by-test (t .when) (λ e. decided P p h tests done (λ rest. f (e, rest)))
+  where
+    by-test : (b : Bool) → (b ≡ false → P (decide p tests done .pool)) → P (cond b (refused (t .why) p) (decide p tests done) .pool)
+    by-test true next = h
+    by-test false next = next refl
+
+-- ---- what is known of an event that is not refused
+
+pub record RegisterThere (s : Sizes) (w r : ℕ) : Type 0 where
+  pub worker : w < s .w
+  pub register : r < s .r
+
+pub record LinkThere (s : Sizes) (p : Pool) (w q f : ℕ) : Type 0 where
+  pub link : f < s .k
+  pub holds : 1 ≤ registerAt p w q .0
+
+module _ (s : Sizes) (p : Pool) where
+  register-there : (w r : ℕ) → (hasWorker s w && hasRegister s r) ≡ true → RegisterThere s w r
+  register-there w r h =
+      record {
+        worker = ltb-true w (s .w) (and-left (hasWorker s w) (hasRegister s r) h);
+        register = ltb-true r (s .r) (and-right (hasWorker s w) (hasRegister s r) h);
+      }
+
+  pub can-make : (w r : ℕ) → Unrefused (refusals s p (Make w r)) → RegisterThere s w r × (1 ≤ chosen p .0)
+  unfolding refusals noneFree
+  can-make w r t =
+      let full = eqb-false (chosen p .0) 0 (t .1 .0) in
+      (register-there w r (not-false _ (t .0)), omega arith)
+
+  pub can-move : (w r q : ℕ) → Unrefused (refusals s p (Move w r q)) → RegisterThere s w r × (q < s .r)
+  unfolding refusals
+  can-move w r q t =
+      let all : (hasWorker s w && hasRegister s r && hasRegister s q) ≡ true = not-false _ (t .0) in
+      (register-there w r (and-left _ (hasRegister s q) all), ltb-true q (s .r) (and-right (hasWorker s w && hasRegister s r) _ all))
+
+  pub can-drop : (w r : ℕ) → Unrefused (refusals s p (Drop w r)) → RegisterThere s w r
+  unfolding refusals
+  can-drop w r t = register-there w r (not-false _ (t .0))
+
+  link-there : (w q f : ℕ) → hasLink s f ≡ true → (registerAt p w q .0 ≡ 0 → ⊥) → LinkThere s p w q f
+  link-there w q f h full = record { link = ltb-true f (s .k) h; holds = omega arith }
+
+  pub can-load : (w r q f : ℕ) → Unrefused (refusals s p (Load w r q f)) → RegisterThere s w r × (q < s .r) × LinkThere s p w q f
+  unfolding refusals
+  can-load w r q f t =
+      let all : (hasWorker s w && hasRegister s r && hasRegister s q && hasLink s f) ≡ true = not-false _ (t .0) in
+      let both : (hasWorker s w && hasRegister s r && hasRegister s q) ≡ true = and-left _ (hasLink s f) all in (
+        register-there w r (and-left _ (hasRegister s q) both),
+        ltb-true q (s .r) (and-right (hasWorker s w && hasRegister s r) _ both),
+        link-there w q f (and-right (hasWorker s w && hasRegister s r && hasRegister s q) _ all) (eqb-false (registerAt p w q .0) 0 (t .1 .0)),
+      )
+
+  pub can-store : (w q f r : ℕ) → Unrefused (refusals s p (Store w q f r)) → RegisterThere s w q × (r < s .r) × LinkThere s p w q f
+  unfolding refusals
+  can-store w q f r t =
+      let all : (hasWorker s w && hasRegister s q && hasLink s f && hasRegister s r) ≡ true = not-false _ (t .0) in
+      let both : (hasWorker s w && hasRegister s q && hasLink s f) ≡ true = and-left _ (hasRegister s r) all in (
+        register-there w q (and-left _ (hasLink s f) both),
+        ltb-true r (s .r) (and-right (hasWorker s w && hasRegister s q && hasLink s f) _ all),
+        link-there w q f (and-right (hasWorker s w && hasRegister s q) _ both) (eqb-false (registerAt p w q .0) 0 (t .1 .0)),
+      )

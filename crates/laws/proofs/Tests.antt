@@ -1,0 +1,37 @@
+-- Laws on tests and on marks as numbers.
+--     eqb-cases              a test of two numbers, and what it tells
+--     and-left, and-right    two tests in one
+--     bit-most, bit-on       a mark as a number
+-- Assumes nothing.
+use Prim.Native.Nat.{ℕ, _≤_, _<_}
+use mathlib.Core.Path.{_≡_, refl}
+use mathlib.Core.Logic.{_⊎_, inl, inr}
+use mathlib.Core.Bool.{Bool, true, false, _&&_}
+use native.Mathlib.Omega.{arith}
+use native.Mathlib.Decide.{ℕ-discrete}
+use borrow.Author.Tests.{eq-eqb, ne-eqb}
+use lib.Dec.{eqb}
+use Rattle.rules.specs.View.{bit}
+
+pub eqb-cases : (m n : ℕ) → ((m ≡ n) × (eqb m n ≡ true)) ⊎ ((m ≡ n → ⊥) × (eqb m n ≡ false))
+eqb-cases m n = from (ℕ-discrete m n)
+  where
+    from : Dec (m ≡ n) → ((m ≡ n) × (eqb m n ≡ true)) ⊎ ((m ≡ n → ⊥) × (eqb m n ≡ false))
+    from (yes e) = inl (e, eq-eqb m n e)
+    from (no d) = inr (d, ne-eqb m n d)
+
+pub and-left : (a b : Bool) → (a && b) ≡ true → a ≡ true
+and-left true b h = refl
+and-left false b h = h
+
+pub and-right : (a b : Bool) → (a && b) ≡ true → b ≡ true
+and-right true b h = h
+and-right false b h = absurd (let z : _≡_ {A = ℕ} 0 1 = cc in omega arith)
+
+pub bit-most : (b : Bool) → bit b ≤ 1
+bit-most true = omega arith
+bit-most false = omega arith
+
+pub bit-on : (b : Bool) → 0 < bit b → b ≡ true
+bit-on true h = refl
+bit-on false h = absurd (omega arith)
