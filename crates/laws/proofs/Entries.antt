@@ -2,11 +2,12 @@
 --     times-append, oldIn-append      of two lists of entries, one after the other
 --     oldIn-absent, oldIn-present, oldIn-else     where no entry is for the link, and where one is
 --     times-one, times-none, times-cons, oldIn-here, oldIn-there     the first entry is for the link, or for another
---     oldIn-low                       a bound on the old values
+--     times-each                      each entry stands among the entries
+--     oldIn-keeps, Each-link          what holds of every old value, and of the link of every entry
 --     times-from                      the entries of a list from a place on
 -- Assumes nothing.
 use Prim.Native.Nat.{ℕ, _+_, _≤_, _<_}
-use mathlib.Core.Path.{_≡_, refl, sym, ap, _∙_}
+use mathlib.Core.Path.{_≡_, refl, sym, ap, _∙_, subst}
 use mathlib.Core.Logic.{⊎-elim}
 use mathlib.Core.Bool.{Bool, true, false, cond}
 use mathlib.Core.List.{List, [], _∷_, _++_}
@@ -14,12 +15,14 @@ use native.Mathlib.Omega.{arith}
 use native.Mathlib.Nat.{eq-zero-or-pos}
 use borrow.Author.Tests.{eq-eqb, ne-eqb}
 use lib.ListN.{take, drop, take-append-drop}
-use Rattle.rules.specs.declared.Sizes.{Sizes}
+use lib.Seq.{append-snoc}
 use Rattle.rules.specs.declared.LinkNumber.{LinkNumber}
 use Rattle.rules.specs.declared.RecordNumber.{RecordNumber}
 use Rattle.rules.specs.Pool.{Entry}
 use Rattle.rules.specs.View.{bit, standsFor, times, oldIn}
-use Rattle.rules.specs.Sound.{Each, EntryInRange}
+use Rattle.rules.specs.Sound.{Each}
+use Rattle.laws.proofs.Tests.{eqb-cases}
+use Rattle.laws.proofs.Number.{link-same}
 
 -- ---- one list after another
 
@@ -79,16 +82,31 @@ pub oldIn-there : (l : LinkNumber) (e : Entry) (xs : List Entry) (a : RecordNumb
 unfolding oldIn
 oldIn-there l e xs a h = ap (λ b. cond b (e .old) (oldIn l xs a)) (ne-eqb (e .link .0) (l .0) h)
 
--- ---- a bound on the old values
+-- ---- what holds of every old value, and of every link of an entry
 
-pub oldIn-low : (s : Sizes) (l : LinkNumber) (xs : List Entry) (a : RecordNumber) → Each (EntryInRange s) xs → a .0 ≤ s .n → oldIn l xs a .0 ≤ s .n
+pub oldIn-keeps : (P : RecordNumber → Type 0) (l : LinkNumber) (xs : List Entry) (a : RecordNumber) → Each (λ e. P (e .old)) xs → P a → P (oldIn l xs a)
 unfolding oldIn
-oldIn-low s l [] a h low = low
-oldIn-low s l (e ∷ xs) a h low = cond-low (standsFor l e) (h .0 .old) (oldIn-low s l xs a (h .1) low)
+oldIn-keeps P l [] a h k = k
+oldIn-keeps P l (e ∷ xs) a h k = cond-keeps (standsFor l e) (h .0) (oldIn-keeps P l xs a (h .1) k)
   where
-    cond-low : (b : Bool) {x y : RecordNumber} → x .0 ≤ s .n → y .0 ≤ s .n → cond b x y .0 ≤ s .n
-    cond-low true hx hy = hx
-    cond-low false hx hy = hy
+    cond-keeps : (b : Bool) {x y : RecordNumber} → P x → P y → P (cond b x y)
+    cond-keeps true hx hy = hx
+    cond-keeps false hx hy = hy
+
+-- a link that stands among the entries has what holds of the link of each
+pub Each-link : (P : LinkNumber → Type 0) (l : LinkNumber) (xs : List Entry) → Each (λ e. P (e .link)) xs → 0 < times l xs → P l
+unfolding times
+Each-link P l [] h k = absurd (omega arith)
+Each-link P l (e ∷ xs) h k =
+    ⊎-elim (λ c. subst P (link-same (e .link) l (c .0)) (h .0)) (λ c. Each-link P l xs (h .1) (omega (arith, ap bit (c .1)))) (eqb-cases (e .link .0) l.0)
+
+-- each entry stands among the entries
+pub times-each : (before xs : List Entry) → Each (λ e. 0 < times (e .link) (before ++ xs)) xs
+times-each before [] = tt
+times-each before (e ∷ xs) = (
+  omega (arith, times-append (e .link) before (e ∷ xs), times-cons (e .link) e xs, times-one (e .link) e refl),
+  subst (λ (ys : List Entry). Each (λ x. 0 < times (x .link) ys) xs) (append-snoc before e xs) (times-each (before ++ (e ∷ [])) xs),
+)
 
 -- ---- the entries from a place on
 

@@ -8,6 +8,7 @@
 --     Room       the room that entries take
 --     Chosen     what a make picks
 --     Search     what phase 6 takes next
+--     Marks      what the collector's steps do to makers, candidate marks and held marks
 --     Refusals   what is known of an event that is not refused
 --     Phases     the list of phases, and how a step moves on
 pub mod Tests
@@ -19,5 +20,6 @@ pub mod Tally
 pub mod Room
 pub mod Chosen
 pub mod Search
+pub mod Marks
 pub mod Refusals
 pub mod Phases

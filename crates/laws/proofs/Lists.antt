@@ -1,13 +1,15 @@
 -- Laws on lists that speak of no pool.
 --     flatten-at, flatten-set                 a list of lists joined, taken apart at one of them
 --     length-flatten                          one of them is no longer than all joined
---     Each-append, Each-left, Each-right, Each-at, Each-flatten, Each-flatten-set    what holds of each element
+--     Each-append, Each-left, Each-right, Each-at, Each-all, Each-flatten, Each-flatten-set, Each-map, Each-map₂     what holds of each element
+--     set-cases                               a table of which one place is written
 --     ofRecord-same, ofRecord-other, length-withRecord     a table of the records, with another thing for one record
---     length-zipWith                          the length of a table made of two
+--     length-zipWith, getD-zipWith            a table made of two
 --     set-keeps, set-keeps-below, map-keeps, withRecord-keeps, map-ofRecord-keeps     what holds at every place of a table
 -- Assumes nothing.
 use Prim.Native.Nat.{ℕ, zero, suc, _≤_, _<_, zero-le, suc-le-suc}
 use mathlib.Core.Path.{_≡_, refl, sym, ap, _∙_}
+use mathlib.Core.Logic.{_⊎_, inl, inr, ⊎-elim}
 use mathlib.Core.List.{List, [], _∷_, _++_, flatten, append-assoc, map, zipWith}
 use native.Mathlib.Omega.{arith}
 use native.Mathlib.Nat.{le-of-suc-le-suc, not-suc-le-zero}
@@ -57,6 +59,12 @@ module _ {A : Type 0} (P : A → Type 0) where
   Each-at (x ∷ xs) zero d l h = h .0
   Each-at (x ∷ xs) (suc i) d l h = Each-at xs i d (le-of-suc-le-suc l) (h .1)
 
+  -- where each list of some has it, so has all of them joined
+  pub Each-all : (ls : List (List A)) → ((w : ℕ) → w < length ls → Each P (getD ls w [])) → Each P (flatten ls)
+  unfolding flatten
+  Each-all [] h = tt
+  Each-all (x ∷ ls) h = Each-append x (flatten ls) (h zero (suc-le-suc zero-le)) (Each-all ls (λ w k. h (suc w) (suc-le-suc k)))
+
   pub Each-flatten : (ls : List (List A)) (w : ℕ) → Each P (flatten ls) → Each P (getD ls w [])
   unfolding flatten
   Each-flatten [] w h = tt
@@ -69,6 +77,26 @@ module _ {A : Type 0} (P : A → Type 0) where
   Each-flatten-set (x ∷ ls) zero xs h k = Each-append xs (flatten ls) k (Each-right x (flatten ls) h)
   Each-flatten-set (x ∷ ls) (suc w) xs h k =
       Each-append x (flatten (set ls w xs)) (Each-left x (flatten ls) h) (Each-flatten-set ls w xs (Each-right x (flatten ls) h) k)
+
+-- what holds of each element gives what it implies
+pub Each-map : {A : Type 0} {P Q : A → Type 0} (xs : List A) → ((x : A) → P x → Q x) → Each P xs → Each Q xs
+Each-map [] f h = tt
+Each-map (x ∷ xs) f h = (f x (h .0), Each-map xs f (h .1))
+
+pub Each-map₂ : {A : Type 0} {P Q R : A → Type 0} (xs : List A) → ((x : A) → P x → Q x → R x) → Each P xs → Each Q xs → Each R xs
+Each-map₂ [] f h k = tt
+Each-map₂ (x ∷ xs) f h k = (f x (h .0) (k .0), Each-map₂ xs f (h .1) (k .1))
+
+-- ---- one place of a table
+
+module _ {A : Type 0} where
+  -- where a place is written, every place has what it had, or is the place written and has what is written
+  pub set-cases : (xs : List A) (i : ℕ) (x : A) (j : ℕ) (d : A) → (getD (set xs i x) j d ≡ getD xs j d) ⊎ ((j ≡ i) × (getD (set xs i x) j d ≡ x))
+  set-cases [] i x j d = inl refl
+  set-cases (y ∷ xs) zero x zero d = inr (refl, refl)
+  set-cases (y ∷ xs) zero x (suc j) d = inl refl
+  set-cases (y ∷ xs) (suc i) x zero d = inl refl
+  set-cases (y ∷ xs) (suc i) x (suc j) d = ⊎-elim inl (λ e. inr (ap suc (e .0), e .1)) (set-cases xs i x j d)
 
 -- ---- a table of the records
 
@@ -93,6 +121,16 @@ unfolding zipWith
 length-zipWith f [] ys h = refl
 length-zipWith f (x ∷ xs) [] h = sym h
 length-zipWith f (x ∷ xs) (y ∷ ys) h = ap suc (length-zipWith f xs ys (omega arith))
+
+-- what stands at a place of a table made of two, and of one mapped
+pub getD-zipWith : {A B C : Type 0} (f : A → B → C) (xs : List A) (ys : List B) (i : ℕ) (a : A) (b : B) → length xs ≡ length ys
+    → getD (zipWith f xs ys) i (f a b) ≡ f (getD xs i a) (getD ys i b)
+unfolding zipWith
+getD-zipWith f [] [] i a b h = refl
+getD-zipWith f [] (y ∷ ys) i a b h = absurd (omega arith)
+getD-zipWith f (x ∷ xs) [] i a b h = absurd (omega arith)
+getD-zipWith f (x ∷ xs) (y ∷ ys) zero a b h = refl
+getD-zipWith f (x ∷ xs) (y ∷ ys) (suc i) a b h = getD-zipWith f xs ys i a b (omega arith)
 
 -- ---- what holds at every place of a table, past its end too
 

@@ -1,35 +1,52 @@
 -- The look-up in the logs, and the view value.
 --     times-logs                      how often a link stands in all logs, where one of them is written
---     lookUp-low                      what is looked up is a record number
+--     lookUp-keeps                    what holds of none and of every old value holds of what is looked up
+--     lookUp-each                     where no link has two entries, each is found
 --     lookUp-absent                   no log says anything of the link
 --     lookUp-without, lookUp-first    a log is emptied that says nothing of the link, or that has its one entry
 --     lookUp-more, lookUp-added       a log gets an entry more, for another link or for this one
 --     view-marked, view-unmarked      the view value, by the mark
 -- Only one entry of all logs is for a link: no law here tells which is found where two are. Assumes nothing.
-use Prim.Native.Nat.{ℕ, suc, _+_, _≤_, _<_, zero-le}
-use mathlib.Core.Path.{_≡_, sym, ap, _∙_}
+use Prim.Native.Nat.{ℕ, suc, _+_, _≤_, _<_}
+use mathlib.Core.Path.{_≡_, refl, sym, ap, _∙_, subst}
 use mathlib.Core.Bool.{true, false, cond}
 use mathlib.Core.List.{List, [], _∷_, _++_, flatten}
 use native.Mathlib.Omega.{arith}
 use lib.ListN.{length, getD, take, drop, set}
-use Rattle.rules.specs.declared.Sizes.{Sizes}
+use lib.Seq.{append-snoc}
 use Rattle.rules.specs.declared.LinkNumber.{LinkNumber}
 use Rattle.rules.specs.declared.RecordNumber.{RecordNumber}
 use Rattle.rules.specs.Pool.{Entry, Pool, none, valueAt, changedAt}
 use Rattle.rules.specs.View.{times, oldIn, lookUp, viewValue}
-use Rattle.rules.specs.Sound.{Each, EntryInRange}
+use Rattle.rules.specs.Sound.{Each}
 use Rattle.laws.proofs.Lists.{flatten-at, flatten-set}
-use Rattle.laws.proofs.Entries.{times-append, oldIn-append, oldIn-absent, oldIn-present, oldIn-here, oldIn-there, oldIn-low}
+use Rattle.laws.proofs.Entries.{times-append, times-cons, times-one, oldIn-append, oldIn-absent, oldIn-present, oldIn-here, oldIn-there, oldIn-keeps}
 
 -- ---- all logs
 
-pub lookUp-low : (s : Sizes) (l : LinkNumber) (logs : List (List Entry)) → Each (EntryInRange s) (flatten logs) → lookUp l logs .0 ≤ s .n
+pub lookUp-keeps : (P : RecordNumber → Type 0) (l : LinkNumber) (logs : List (List Entry)) → Each (λ e. P (e .old)) (flatten logs) → P none → P (lookUp l logs)
 unfolding lookUp
-lookUp-low s l logs h = oldIn-low s l (flatten logs) none h zero-le
+lookUp-keeps P l logs h k = oldIn-keeps P l (flatten logs) none h k
 
 pub lookUp-absent : (l : LinkNumber) (logs : List (List Entry)) → times l (flatten logs) ≡ 0 → lookUp l logs ≡ none
 unfolding lookUp
 lookUp-absent l logs h = oldIn-absent l (flatten logs) none h
+
+-- each entry that stands behind some others is the first for its link, where no link has two
+found-behind : (before xs : List Entry) → Each (λ e. times (e .link) (before ++ xs) ≤ 1) xs → Each (λ e. oldIn (e .link) (before ++ xs) none ≡ e .old) xs
+found-behind before [] h = tt
+found-behind before (e ∷ xs) h = (
+  oldIn-append (e .link) before (e ∷ xs) none
+      ∙ oldIn-absent (e .link) before (oldIn (e .link) (e ∷ xs) none) (omega (arith, h .0, times-append (e .link) before (e ∷ xs), times-cons (e .link) e xs, times-one (e .link) e refl))
+      ∙ oldIn-here (e .link) e xs none refl,
+  subst (λ (ys : List Entry). Each (λ x. oldIn (x .link) ys none ≡ x .old) xs) (append-snoc before e xs)
+      (found-behind (before ++ (e ∷ [])) xs (subst (λ (ys : List Entry). Each (λ x. times (x .link) ys ≤ 1) xs) (sym (append-snoc before e xs)) (h .1))),
+)
+
+-- the look-up finds every entry, where no link has two
+pub lookUp-each : (logs : List (List Entry)) → Each (λ e. times (e .link) (flatten logs) ≤ 1) (flatten logs) → Each (λ e. lookUp (e .link) logs ≡ e .old) (flatten logs)
+unfolding lookUp
+lookUp-each logs h = found-behind [] (flatten logs) h
 
 -- ---- all logs, of which one is written
 

@@ -1,11 +1,12 @@
 -- Record numbers and link numbers.
 --     record-same, link-same    two with one number are one
 --     link-inside               a link of a record has a number below S
+--     link-apart                links of two records have two numbers
 -- Assumes nothing.
-use Prim.Native.Nat.{ℕ, suc, _-_, _≤_, _<_}
-use mathlib.Core.Path.{_≡_}
+use Prim.Native.Nat.{ℕ, suc, _+_, _-_, _*_, _/_, _≤_, _<_}
+use mathlib.Core.Path.{_≡_, ap, _∙_}
 use native.Mathlib.Omega.{arith}
-use native.Mathlib.Nat.{suc-mul, mul-le-mul-right}
+use native.Mathlib.Nat.{suc-mul, mul-le-mul-right, mul-add-div-right, div-eq-of-lt}
 use Rattle.rules.specs.declared.Sizes.{Sizes}
 use Rattle.rules.specs.declared.RecordNumber.{RecordNumber}
 use Rattle.rules.specs.declared.LinkNumber.{LinkNumber}
@@ -21,3 +22,14 @@ pub link-inside : (s : Sizes) (a : RecordNumber) (f : ℕ) → 1 ≤ a .0 → a 
 unfolding linkNumber links
 link-inside s a f h k q =
     omega (arith, suc-mul (a .0 - 1) (s .k), mul-le-mul-right (s .k) (let i : suc (a .0 - 1) ≤ s .n = omega arith in i))
+
+-- one link number is of one record
+pub link-apart : (s : Sizes) (a b : RecordNumber) (f g : ℕ) → 1 ≤ a .0 → 1 ≤ b .0 → f < s .k → g < s .k → linkNumber s a f .0 ≡ linkNumber s b g .0 → a .0 ≡ b .0
+unfolding linkNumber
+link-apart s a b f g ha hb hf hg e =
+    let i : ℕ = a .0 - 1 in
+    let j : ℕ = b .0 - 1 in
+    omega (arith, div-of i f (s .k) hf, div-of j g (s .k) hg, ap (λ (n : ℕ). n / s .k) e)
+  where
+    div-of : (i f k : ℕ) → f < k → (i * k + f) / k ≡ i
+    div-of i f k h = mul-add-div-right (omega arith) i f ∙ ap (λ (n : ℕ). i + n) (div-eq-of-lt h) ∙ omega arith

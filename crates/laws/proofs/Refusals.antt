@@ -1,5 +1,6 @@
 -- What is known of an event that is not refused, and of one that is.
---     decided                 what holds of the pool before, and of the pool after where no test is true, holds of the pool after
+--     Unrefused               no test is true
+--     decided-outcome, decided     what holds of a refusal, and of what is done where no test is true, holds of the outcome
 --     RegisterThere, LinkThere     the worker and its register, the link of the record that a register holds are there
 --     can-make .. can-store   what is known where none of the tests of an event is true
 -- Assumes nothing.
@@ -10,6 +11,7 @@ use mathlib.Core.List.{List, [], _∷_}
 use native.Mathlib.Omega.{arith}
 use borrow.Author.Tests.{ltb-true, eqb-false, not-false}
 use Rattle.rules.specs.declared.Sizes.{Sizes}
+use Rattle.rules.specs.declared.Refusal.{Refusal}
 use Rattle.rules.specs.declared.Event.the-variants.{Make, Move, Drop, Load, Store}
 use Rattle.rules.specs.Pool.{Pool, registerAt}
 use Rattle.rules.specs.Reply.{Outcome}
@@ -24,14 +26,20 @@ use Rattle.laws.proofs.Tests.{and-left, and-right}
 abbrev pub Unrefused : List Test → Type 0
 Unrefused tests = Each (λ t. t .when ≡ false) tests
 
-pub decided : (P : Pool → Type 0) (p : Pool) → P p → (tests : List Test) (done : Outcome) → (Unrefused tests → P (done .pool)) → P (decide p tests done .pool)
+-- what holds of every refusal, and of what is done where no test is true, holds of the outcome
+pub decided-outcome : (P : Outcome → Type 0) (p : Pool) → ((why : Refusal) → P (refused why p)) → (tests : List Test) (done : Outcome) → (Unrefused tests → P done)
+    → P (decide p tests done)
 unfolding decide
-decided P p h [] done f = f tt
-decided P p h (t ∷ tests) done f = by-test (t .when) (λ e. decided P p h tests done (λ rest. f (e, rest)))
+decided-outcome P p h [] done f = f tt
+decided-outcome P p h (t ∷ tests) done f = by-test (t .when) (λ e. decided-outcome P p h tests done (λ rest. f (e, rest)))
   where
-    by-test : (b : Bool) → (b ≡ false → P (decide p tests done .pool)) → P (cond b (refused (t .why) p) (decide p tests done) .pool)
-    by-test true next = h
+    by-test : (b : Bool) → (b ≡ false → P (decide p tests done)) → P (cond b (refused (t .why) p) (decide p tests done))
+    by-test true next = h (t .why)
     by-test false next = next refl
+
+-- what holds of the pool before, and of the pool after where no test is true, holds of the pool after
+pub decided : (P : Pool → Type 0) (p : Pool) → P p → (tests : List Test) (done : Outcome) → (Unrefused tests → P (done .pool)) → P (decide p tests done .pool)
+decided P p h tests done f = decided-outcome (λ o. P (o .pool)) p (λ why. h) tests done f
 
 -- ---- what is known of an event that is not refused
 

@@ -1,5 +1,6 @@
 -- Laws on tests and on marks as numbers.
 --     eqb-cases              a test of two numbers, and what it tells
+--     below-or-not           a number is below another, or it is not
 --     and-left, and-right    two tests in one
 --     bit-most, bit-on       a mark as a number
 -- Assumes nothing.
@@ -8,7 +9,7 @@ use mathlib.Core.Path.{_≡_, refl}
 use mathlib.Core.Logic.{_⊎_, inl, inr}
 use mathlib.Core.Bool.{Bool, true, false, _&&_}
 use native.Mathlib.Omega.{arith}
-use native.Mathlib.Decide.{ℕ-discrete}
+use native.Mathlib.Decide.{ℕ-discrete, decLt}
 use borrow.Author.Tests.{eq-eqb, ne-eqb}
 use lib.Dec.{eqb}
 use Rattle.rules.specs.View.{bit}
@@ -19,6 +20,13 @@ eqb-cases m n = from (ℕ-discrete m n)
     from : Dec (m ≡ n) → ((m ≡ n) × (eqb m n ≡ true)) ⊎ ((m ≡ n → ⊥) × (eqb m n ≡ false))
     from (yes e) = inl (e, eq-eqb m n e)
     from (no d) = inr (d, ne-eqb m n d)
+
+pub below-or-not : (m n : ℕ) → (m < n) ⊎ (n ≤ m)
+below-or-not m n = from (decLt m n)
+  where
+    from : Dec (m < n) → (m < n) ⊎ (n ≤ m)
+    from (yes h) = inl h
+    from (no h) = inr (omega arith)
 
 pub and-left : (a b : Bool) → (a && b) ≡ true → a ≡ true
 and-left true b h = refl

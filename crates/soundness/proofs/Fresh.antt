@@ -1,6 +1,7 @@
 -- The fresh pool is sound: every list has its length, nothing is logged, and no link counts for a record.
---     getD-same     what stands at every place of a list of one thing
---     fresh-sound   the fresh pool is sound
+--     getD-same, ofRecord-all             what stands at every place of a list of one thing
+--     no-logs, unmarked, empty, nothing-held     nothing is in the fresh pool
+--     fresh-sound                         the fresh pool is sound
 -- Assumes nothing.
 use Prim.Native.Nat.{ℕ, zero, suc, _+_, _≤_, zero-le}
 use mathlib.Core.Path.{_≡_, refl, sym, ap, _∙_, subst}
@@ -25,9 +26,9 @@ getD-same zero x i = refl
 getD-same (suc n) x zero = refl
 getD-same (suc n) x (suc i) = getD-same n x i
 
-ofRecord-same : {A : Type 0} (n : ℕ) (x : A) (i : ℕ) → ofRecord (replicate n x) i x ≡ x
-ofRecord-same n x zero = refl
-ofRecord-same n x (suc i) = getD-same n x i
+pub ofRecord-all : {A : Type 0} (n : ℕ) (x : A) (i : ℕ) → ofRecord (replicate n x) i x ≡ x
+ofRecord-all n x zero = refl
+ofRecord-all n x (suc i) = getD-same n x i
 
 no-entries : (n : ℕ) → flatten (replicate n (let none-yet : List Entry = [] in none-yet)) ≡ []
 unfolding flatten
@@ -35,7 +36,7 @@ no-entries zero = refl
 no-entries (suc n) = no-entries n
 
 module _ (s : Sizes) where
-  no-logs : allLogs (fresh s) ≡ []
+  pub no-logs : allLogs (fresh s) ≡ []
   unfolding allLogs fresh
   no-logs = no-entries (s .w)
 
@@ -43,16 +44,16 @@ module _ (s : Sizes) where
   unfolding fresh
   unmarked l = getD-same (links s) false l.0
 
-  empty : (l : LinkNumber) → valueAt (fresh s) l ≡ none
+  pub empty : (l : LinkNumber) → valueAt (fresh s) l ≡ none
   unfolding fresh
   empty l = getD-same (links s) none l.0
 
-  nothing-held : (w r : ℕ) → getD (getD (replicate (s .w) (replicate (s .r) none)) w []) r none .0 ≤ s .n
+  pub nothing-held : (w r : ℕ) → getD (getD (replicate (s .w) (replicate (s .r) none)) w []) r none .0 ≡ 0
   nothing-held w r = low (s .w) w
     where
-      low : (n w : ℕ) → getD (getD (replicate n (replicate (s .r) none)) w []) r none .0 ≤ s .n
-      low zero w = zero-le
-      low (suc n) zero = subst (λ (a : RecordNumber). a .0 ≤ s .n) (sym (getD-same (s .r) none r)) zero-le
+      low : (n w : ℕ) → getD (getD (replicate n (replicate (s .r) none)) w []) r none .0 ≡ 0
+      low zero w = refl
+      low (suc n) zero = ap (λ (a : RecordNumber). a .0) (getD-same (s .r) none r)
       low (suc n) (suc w) = low n w
 
   fresh-core : Core s (fresh s) [] []
@@ -78,16 +79,16 @@ module _ (s : Sizes) where
                     log = length-replicate (s .w) [];
                   };
             };
-        registers = nothing-held;
+        registers = λ w r. omega (arith, nothing-held w r);
         values = λ l. subst (λ (a : RecordNumber). a .0 ≤ s .n) (sym (empty l)) zero-le;
         logs = subst (λ xs. Each (EntryInRange s) xs) (sym no-logs) tt;
         history = tt;
-        makers = λ a. subst (λ (m : ℕ). m ≤ s .w) (sym (ofRecord-same (s .n) 0 a.0)) zero-le;
+        makers = λ a. subst (λ (m : ℕ). m ≤ s .w) (sym (ofRecord-all (s .n) 0 a.0)) zero-le;
         once = λ l h. omega arith;
         marks = λ l h. ap (λ xs. times l xs + 0) no-logs ∙ sym (ap bit (unmarked l));
         counts =
             λ a h k.
-            ofRecord-same (s .n) 0 a.0 ∙ sym (tally-nothing (λ l. viewValue (fresh s) l) (links s) a (λ l e.
+            ofRecord-all (s .n) 0 a.0 ∙ sym (tally-nothing (λ l. viewValue (fresh s) l) (links s) a (λ l e.
             omega (arith, ap (λ (x : RecordNumber). x .0) (view-unmarked (fresh s) l (unmarked l) ∙ empty l))));
       }
 

@@ -1,7 +1,7 @@
 -- A store keeps the core. It changes no value that is counted: on a link whose mark is off it logs the very value that the link counts for, and on a link
 -- whose mark is on only the present value moves.
---     core-value                       a link whose mark is on takes another value
---     core-added                       a link whose mark is off is logged and takes another value
+--     view-value, core-value           a link whose mark is on takes another value
+--     view-after, core-added           a link whose mark is off is logged and takes another value
 --     core-stored                      a store
 -- Assumes nothing.
 use Prim.Native.Nat.{ℕ, _+_, _≤_, _<_}
@@ -32,7 +32,7 @@ use Rattle.soundness.proofs.Core.{Core}
 
 module _ {s : Sizes} {p : Pool} {clear count : List Entry} (c : Core s p clear count) (l : LinkNumber) (a : RecordNumber) (low : a .0 ≤ s .n) where
   -- the mark is on
-  view-value : changedAt p l ≡ true → (m : LinkNumber) → viewValue p m ≡ viewValue (withValue l a p) m
+  pub view-value : changedAt p l ≡ true → (m : LinkNumber) → viewValue p m ≡ viewValue (withValue l a p) m
   unfolding allLogs viewValue
   view-value on m = ⊎-elim (λ x. here (x .0)) (λ x. there (x .0)) (eqb-cases m.0 l.0)
     where
@@ -108,7 +108,7 @@ module _ {s : Sizes} {p : Pool} {clear count : List Entry} (c : Core s p clear c
             let same : changedAt stored m ≡ changedAt p m = getD-set-other (p .links .changed) l.0 m.0 true false d in
             omega (arith, more, split, times-none m entry (λ z. d (sym z)), c .marks m k, ap bit same)
 
-    view-after : (m : LinkNumber) → viewValue p m ≡ viewValue stored m
+    pub view-after : (m : LinkNumber) → viewValue p m ≡ viewValue stored m
     unfolding added allLogs viewValue
     view-after m = ⊎-elim (λ x. here (x .0)) (λ x. there (x .0)) (eqb-cases m.0 l.0)
       where

@@ -1,0 +1,117 @@
+-- What the collector's steps do to the makers, candidate marks and held marks of the records.
+--     maker-some                       a record that has a maker is not none
+--     made-other, made-own, made-candidate     phase 2: the records of which a worker is maker, and the others
+--     on-grows                         a mark goes on: the others stay
+--     heldBy-grows, heldBy-each        phase 4: held marks stay, and each record of the registers is held
+--     falls-other                      phases 5 and 6: a count that falls makes no other record a candidate
+--     closes-candidate                 the close makes no record a candidate
+-- Assumes nothing.
+use Prim.Native.Nat.{ℕ, zero, suc, _+_, _-_, _≤_}
+use mathlib.Core.Path.{_≡_, refl, sym, ap, _∙_}
+use mathlib.Core.Logic.{⊎-elim}
+use mathlib.Core.Bool.{Bool, true, false, cond, _&&_, _||_}
+use mathlib.Core.List.{List, [], _∷_, map, zipWith}
+use native.Mathlib.Omega.{arith}
+use native.Mathlib.Nat.{not-suc-le-zero}
+use borrow.Author.Tests.{eq-eqb, ne-eqb}
+use lib.Dec.{eqb}
+use lib.ListN.{length, getD, List·getD-map}
+use Rattle.rules.specs.declared.RecordNumber.{RecordNumber}
+use Rattle.rules.specs.Pool.{Pool, none, ofRecord, withRecord, countAt, candidateAt, makerAt}
+use Rattle.rules.specs.Collect.{madeBy, heldBy, falls, closes}
+use Rattle.laws.proofs.Lists.{set-cases, ofRecord-same, ofRecord-other, length-withRecord, getD-zipWith}
+
+-- ---- makers
+
+-- none has no maker
+pub maker-some : (p : Pool) (a : RecordNumber) (w : ℕ) → makerAt p a ≡ suc w → 1 ≤ a .0
+maker-some p a w e = at a.0 e
+  where
+    at : (i : ℕ) → ofRecord (p .records .maker) i 0 ≡ suc w → 1 ≤ i
+    at zero z = absurd (omega arith)
+    at (suc i) z = omega arith
+
+-- ---- phase 2
+
+module _ (w : ℕ) (p : Pool) where
+  -- the maker of each record: none where it was w + 1
+  abbrev unmade : ℕ → ℕ
+  unmade m = cond (eqb m (w + 1)) 0 m
+
+  unmade-zero : unmade 0 ≡ 0
+  unmade-zero = ap (λ b. cond b 0 0) (ne-eqb 0 (w + 1) (λ e. omega arith))
+
+  maker-after : (a : RecordNumber) → makerAt (madeBy w p) a ≡ unmade (makerAt p a)
+  unfolding madeBy
+  maker-after a = at a.0
+    where
+      at : (i : ℕ) → ofRecord (map unmade (p .records .maker)) i 0 ≡ unmade (ofRecord (p .records .maker) i 0)
+      at zero = sym unmade-zero
+      at (suc i) = ap (getD (map unmade (p .records .maker)) i) (sym unmade-zero) ∙ List·getD-map unmade (p .records .maker) i 0
+
+  abbrev joined : ℕ → Bool → Bool
+  joined m c = eqb m (w + 1) || c
+
+  joined-none : joined 0 false ≡ false
+  joined-none = ap (λ b. b || false) (ne-eqb 0 (w + 1) (λ e. omega arith))
+
+  candidate-after : length (p .records .maker) ≡ length (p .records .candidate) → (a : RecordNumber) → candidateAt (madeBy w p) a ≡ joined (makerAt p a) (candidateAt p a)
+  unfolding madeBy
+  candidate-after h a = at a.0
+    where
+      at : (i : ℕ) → ofRecord (zipWith joined (p .records .maker) (p .records .candidate)) i false ≡ joined (ofRecord (p .records .maker) i 0) (ofRecord (p .records .candidate) i false)
+      at zero = sym joined-none
+      at (suc i) =
+          ap (getD (zipWith joined (p .records .maker) (p .records .candidate)) i) (sym joined-none)
+          ∙ getD-zipWith joined (p .records .maker) (p .records .candidate) i 0 false h
+
+  pub made-own : (a : RecordNumber) → makerAt p a ≡ w + 1 → makerAt (madeBy w p) a ≡ 0
+  made-own a e = maker-after a ∙ ap (λ b. cond b 0 (makerAt p a)) (eq-eqb (makerAt p a) (w + 1) e)
+
+  pub made-other : (a : RecordNumber) → (makerAt p a ≡ w + 1 → ⊥) → makerAt (madeBy w p) a ≡ makerAt p a
+  made-other a n = maker-after a ∙ ap (λ b. cond b 0 (makerAt p a)) (ne-eqb (makerAt p a) (w + 1) n)
+
+  pub made-candidate : length (p .records .maker) ≡ length (p .records .candidate) → (a : RecordNumber) → (makerAt p a ≡ w + 1 → ⊥)
+      → candidateAt (madeBy w p) a ≡ candidateAt p a
+  made-candidate h a n = candidate-after h a ∙ ap (λ b. b || candidateAt p a) (ne-eqb (makerAt p a) (w + 1) n)
+
+-- ---- phase 4
+
+pub on-grows : (marks : List Bool) (i j : ℕ) → ofRecord marks j false ≡ true → ofRecord (withRecord marks i true) j false ≡ true
+on-grows marks zero j h = h
+on-grows marks (suc i) zero h = h
+on-grows marks (suc i) (suc j) h = ⊎-elim (λ e. e ∙ h) (λ e. e .1) (set-cases marks i true j false)
+
+pub heldBy-grows : (registers : List RecordNumber) (marks : List Bool) (j : ℕ) → ofRecord marks j false ≡ true → ofRecord (heldBy registers marks) j false ≡ true
+unfolding heldBy
+heldBy-grows [] marks j h = h
+heldBy-grows (a ∷ registers) marks j h = heldBy-grows registers (withRecord marks (a .0) true) j (on-grows marks (a .0) j h)
+
+pub heldBy-each : (registers : List RecordNumber) (marks : List Bool) (r : ℕ) → 1 ≤ getD registers r none .0 → getD registers r none .0 ≤ length marks
+    → ofRecord (heldBy registers marks) (getD registers r none .0) false ≡ true
+unfolding heldBy
+heldBy-each [] marks r h k = absurd (not-suc-le-zero h)
+heldBy-each (a ∷ registers) marks zero h k =
+    heldBy-grows registers (withRecord marks (a .0) true) (a .0) (ofRecord-same marks (a .0) true false h k)
+heldBy-each (a ∷ registers) marks (suc r) h k =
+    heldBy-each registers (withRecord marks (a .0) true) r h (omega (arith, length-withRecord marks (a .0) true))
+
+-- ---- phases 5 and 6
+
+pub falls-other : (a b : RecordNumber) (p : Pool) → (a .0 ≡ b .0 → ⊥) → candidateAt (falls a p) b ≡ candidateAt p b
+unfolding falls
+falls-other a b p n = by-count (eqb (countAt p a - 1) 0)
+  where
+    by-count : (x : Bool) → ofRecord (cond x (withRecord (p .records .candidate) (a .0) true) (p .records .candidate)) (b .0) false ≡ candidateAt p b
+    by-count true = ofRecord-other (p .records .candidate) a.0 b.0 true false n
+    by-count false = refl
+
+pub closes-candidate : (p : Pool) → length (p .records .candidate) ≡ length (p .records .count) → (a : RecordNumber) → candidateAt p a ≡ false → candidateAt (closes p) a ≡ false
+unfolding closes
+closes-candidate p h a off = at a.0 off
+  where
+    at : (i : ℕ) → ofRecord (p .records .candidate) i false ≡ false → ofRecord (zipWith (λ c n. c && eqb n 0) (p .records .candidate) (p .records .count)) i false ≡ false
+    at zero e = refl
+    at (suc i) e =
+        getD-zipWith (λ c n. c && eqb n 0) (p .records .candidate) (p .records .count) i false 0 h
+        ∙ ap (λ c. c && eqb (getD (p .records .count) i 0) 0) e

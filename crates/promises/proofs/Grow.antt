@@ -1,0 +1,82 @@
+-- What only grows keeps the invariant.
+--     kept-grows        the kept records stay kept where held marks, makers and changed marks grow and view values stay
+--     raised            a pool with other counts, held marks and snoop flags, and another collector's record
+--     named-raised, since-raised, phased-raised     the invariant of it, where the held marks grow
+-- Assumes nothing.
+use Prim.Native.Nat.{ℕ, _≤_, _<_}
+use mathlib.Core.Path.{_≡_, refl, _∙_}
+use mathlib.Core.Bool.{Bool, true, false}
+use mathlib.Core.List.{List}
+use lib.ListN.{getD}
+use Rattle.rules.specs.declared.Sizes.{Sizes}
+use Rattle.rules.specs.declared.RecordNumber.{RecordNumber}
+use Rattle.rules.specs.declared.LinkNumber.{LinkNumber}
+use Rattle.rules.specs.declared.Collector.{Collector}
+use Rattle.rules.specs.Size.{linkNumber}
+use Rattle.rules.specs.Pool.{Pool, ofRecord, heldAt, makerAt, valueAt, changedAt, logAt}
+use Rattle.rules.specs.View.{allLogs, viewValue}
+use Rattle.laws.proofs.Lists.{Each-map}
+use Rattle.promises.proofs.Invariant.{Kept, by-held, by-maker, by-mark, by-view, Since, Named, Phased, snoopsIn}
+
+pub kept-grows : {s : Sizes} {a : RecordNumber} (p q : Pool)
+    → ((b : RecordNumber) → heldAt p b ≡ true → heldAt q b ≡ true)
+    → ((b : RecordNumber) → 1 ≤ makerAt p b → 1 ≤ makerAt q b)
+    → ((l : LinkNumber) → changedAt p l ≡ true → changedAt q l ≡ true)
+    → ((l : LinkNumber) → viewValue q l ≡ viewValue p l)
+    → Kept s p a → Kept s q a
+kept-grows p q h m c v (by-held {a = a} x) = by-held (h a x)
+kept-grows p q h m c v (by-maker {a = a} x) = by-maker (m a x)
+kept-grows {s} p q h m c v (by-mark {a = a} f some k x) = by-mark f some k (c (linkNumber s a f) x)
+kept-grows {s} p q h m c v (by-view {a = a} f x k e some) = by-view f (kept-grows p q h m c v x) k (v (linkNumber s a f) ∙ e) some
+
+abbrev pub raised : Pool → List ℕ → List Bool → List Bool → Collector → Pool
+raised p count held snoop c =
+    record {
+      records =
+          record { used = p .records .used; count = count; held = held; candidate = p .records .candidate; maker = p .records .maker };
+      links = p .links;
+      workers = record { registers = p .workers .registers; snoop = snoop; log = p .workers .log };
+      history = p .history;
+      collector = c;
+    }
+
+module _ {s : Sizes} {p : Pool} (count : List ℕ) (held : List Bool) (snoop : List Bool) (c : Collector) where
+  pub named-raised : Named s p → Named s (raised p count held snoop c)
+  unfolding allLogs
+  named-raised n =
+      record {
+        registers = n .registers;
+        values = n .values;
+        logs = n .logs;
+        history = n .history;
+        free-candidate = n .free-candidate;
+        free-maker = n .free-maker;
+        free-links = n .free-links;
+      }
+
+  module _ (grows : (a : RecordNumber) → heldAt p a ≡ true → ofRecord held a.0 false ≡ true) where
+    pub since-raised : {k : ℕ} {a : RecordNumber} → Since s p k a → Since s (raised p count held snoop c) k a
+    unfolding allLogs viewValue
+    since-raised {k} {a} x =
+        record {
+          candidate = λ h. grows a (x .candidate h);
+          history = x .history;
+          value = λ q l h. grows a (x .value q l h);
+          view = λ l q h. grows a (x .view l q h);
+          marked = x .marked;
+          log = x .log;
+        }
+
+    pub kept-raised : {a : RecordNumber} → Kept s p a → Kept s (raised p count held snoop c) a
+    unfolding viewValue
+    kept-raised x = kept-grows p (raised p count held snoop c) grows (λ b h. h) (λ l h. h) (λ l. refl) x
+
+    pub phased-raised : {k i : ℕ} → ((w : ℕ) → w < s .w → getD snoop w false ≡ snoopsIn k i w) → Phased s p k i → Phased s (raised p count held snoop c) k i
+    phased-raised flags x =
+        record {
+          snoop = flags;
+          logged = λ l m w h. Each-map (logAt p w) (λ e q some. grows (valueAt p (e .link)) (q some)) (x .logged l m w h);
+          since = λ a w e h. since-raised (x .since a w e h);
+          scanned = λ l w r h some. kept-raised (x .scanned l w r h some);
+          marked = λ l m h e some. kept-raised (x .marked l m h e some);
+        }

@@ -1,0 +1,23 @@
+-- The proofs of what is promised. A reader begins at Promises, which states it; the rest leads up to it.
+--     Invariant     the invariant of a run from fresh: what is named, held and kept
+--     Grow          what only grows keeps it
+--     Register, Relink     what the worker events change: a register, a link
+--     Cycle         the steps of phases 0 to 5
+--     Lost          phase 6: what it takes is named nowhere and kept by nothing
+--     Run, Work     every collector step and every worker event keeps the invariant
+--     Hold          it holds at each place of a run
+--     Reached       what a worker can reach is never freed
+--     Apart         no record is in the reach of two workers
+--     Promises      the statements
+pub mod Invariant
+pub mod Grow
+pub mod Register
+pub mod Relink
+pub mod Cycle
+pub mod Lost
+pub mod Run
+pub mod Work
+pub mod Hold
+pub mod Reached
+pub mod Apart
+pub mod Promises

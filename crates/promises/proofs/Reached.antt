@@ -1,0 +1,115 @@
+-- What a worker can reach is never freed.
+--     marked-inside      a link whose mark is on has a number below S
+--     reached-kept       in phase 6 what a worker reaches is kept
+--     collected-unreached, freed-unreached     a record that an event frees passed the search, so that nothing keeps it and no worker reaches it
+-- Assumes nothing.
+use Prim.Native.Nat.{ℕ, zero, suc, _≤_, _<_}
+use mathlib.Core.Path.{_≡_, refl, sym, ap, _∙_, subst}
+use mathlib.Core.Logic.{_⊎_, inl, inr, ⊎-elim}
+use mathlib.Core.Bool.{Bool, true, false, true≢false}
+use mathlib.Core.List.{List, []}
+use native.Mathlib.Omega.{arith}
+use lib.ListN.{length, getD, List·getD-eq-default}
+use Rattle.rules.specs.declared.Sizes.{Sizes}
+use Rattle.rules.specs.declared.RecordNumber.{RecordNumber}
+use Rattle.rules.specs.declared.LinkNumber.{LinkNumber}
+use Rattle.rules.specs.declared.Event.{Event}
+use Rattle.rules.specs.declared.Event.the-variants.{Make, Move, Drop, Load, Store, Collect}
+use Rattle.rules.specs.declared.Answer.{Answer}
+use Rattle.rules.specs.declared.Answer.the-variants.{Fresh, Made, Moved, Dropped, Loaded, Stored, Stepped, Freed, Refused}
+use Rattle.rules.specs.Size.{links, linkNumber}
+use Rattle.rules.specs.Pool.{Pool, none, changedAt, registersAt}
+use Rattle.rules.specs.Reply.{Outcome}
+use Rattle.rules.specs.Worker.{makes, moves, drops, loads, stores}
+use Rattle.rules.specs.Collect.{opens, snoops, takes, clears, scans, counts, passes, reclaimed, reclaim, reclaims, collects}
+use Rattle.rules.specs.Outcome.{does, outcome}
+use Rattle.rules.specs.Sound.{Sound}
+use Rattle.laws.proofs.Tests.{below-or-not}
+use Rattle.laws.proofs.Number.{record-same}
+use Rattle.laws.proofs.LookUp.{view-unmarked}
+use Rattle.laws.proofs.Search.{passed, reclaimed-passes}
+use Rattle.laws.proofs.Refusals.{decided-outcome}
+use Rattle.laws.proofs.Phases.{by-phase}
+use Rattle.promises.specs.Reach.{Reaches, holds, leads}
+use Rattle.promises.proofs.Invariant.{Kept, by-view}
+use Rattle.promises.proofs.Lost.{unkept}
+use Rattle.promises.proofs.Run.{State, phased-in, taken-lost}
+
+-- an answer that frees is no other one
+abbrev frees? : Answer → Type 0
+frees? Fresh = ⊥
+frees? (Made a) = ⊥
+frees? (Moved a) = ⊥
+frees? Dropped = ⊥
+frees? (Loaded a) = ⊥
+frees? (Stored a) = ⊥
+frees? Stepped = ⊥
+frees? (Freed a) = Unit {0}
+frees? (Refused why) = ⊥
+
+told-apart : {x : Answer} {a : RecordNumber} → x ≡ Freed a → frees? x
+told-apart e = subst frees? (sym e) tt
+
+module _ {s : Sizes} {p : Pool} (sound : Sound s p) (state : State s p) where
+  marked-inside : (l : LinkNumber) → changedAt p l ≡ true → l .0 < links s
+  marked-inside l on =
+      ⊎-elim (λ h. h) (λ h. absurd (true≢false (sym on ∙ List·getD-eq-default (p .links .changed) false (omega (arith, sound .shaped .links .changed))))) (below-or-not l.0 (links s))
+
+  -- all workers are scanned, so that what a register holds is kept, and what a kept record's link holds is a view value or stands under a mark
+  reached-kept : p .collector .phase ≡ 6 → {a : RecordNumber} (w : ℕ) → Reaches s p w a → Kept s p a
+  reached-kept e w (holds {a = a} r h some) = ⊎-elim inside beyond (below-or-not w (s .w))
+    where
+      inside : w < s .w → Kept s p a
+      inside k = subst (Kept s p) h (phased-in sound state 6 e .scanned (omega arith) w r k (subst (λ (b : RecordNumber). 1 ≤ b .0) (sym h) some))
+
+      beyond : s .w ≤ w → Kept s p a
+      beyond k =
+          let past : length (p .workers .registers) ≤ w = omega (arith, sound .shaped .workers .registers) in
+          let nothing : registersAt p w ≡ [] = List·getD-eq-default (p .workers .registers) [] past in
+          absurd (omega (arith, ap (λ (b : RecordNumber). b .0) h, ap (λ (l : List RecordNumber). getD l r none .0) nothing))
+  reached-kept e w (leads {a = a} {b = b} f x k h some) = by-mark-of (reached-kept e w x) (changedAt p l) refl
+    where
+      l : LinkNumber
+      l = linkNumber s a f
+
+      by-mark-of : Kept s p a → (c : Bool) → changedAt p l ≡ c → Kept s p b
+      by-mark-of y true on =
+          subst (Kept s p) h (phased-in sound state 6 e .marked (omega arith) l (marked-inside l on) on (subst (λ (c : RecordNumber). 1 ≤ c .0) (sym h) some))
+      by-mark-of y false off = by-view f y k (view-unmarked p l off ∙ h) some
+
+  abbrev Unreached : RecordNumber → Outcome → Type 0
+  Unreached a o = o .answer ≡ Freed a → (w : ℕ) → Reaches s p w a → ⊥
+
+  -- only the step of phase 6 frees, and what it frees passed the search
+  collected-unreached : (a : RecordNumber) → collects s p .answer ≡ Freed a → (w : ℕ) → Reaches s p w a → ⊥
+  unfolding opens snoops takes clears scans counts reclaims reclaim
+  collected-unreached a =
+      by-phase s p (Unreached a) (sound .phase)
+      (λ e. stepped) (λ e. stepped) (λ e. stepped) (λ e. stepped) (λ e. stepped) (λ e. stepped)
+      (λ e. by-number e (reclaimed s p .0) refl (reclaimed-passes s p))
+    where
+      stepped : Stepped ≡ Freed a → (w : ℕ) → Reaches s p w a → ⊥
+      stepped z w x = told-apart z
+
+      found : RecordNumber
+      found = reclaimed s p
+
+      by-number : p .collector .phase ≡ 6 → (k : ℕ) → found .0 ≡ k → (found .0 ≡ 0) ⊎ ((passes s p found ≡ true) × (1 ≤ found .0) × (found .0 ≤ s .n))
+          → reclaim s p k .answer ≡ Freed a → (w : ℕ) → Reaches s p w a → ⊥
+      by-number e zero f pass z = stepped z
+      by-number e (suc i) f (inl none-found) z = λ w x. omega arith
+      by-number e (suc i) f (inr pass) z = λ w x.
+          let same : record { 0 = suc i } ≡ a = cc in
+          let is-found : found ≡ a = record-same found (record { 0 = suc i }) f ∙ same in
+          unkept (taken-lost sound state e found (pass .1) (pass .2) (passed s p found (pass .0)) .unkept)
+          (subst (Kept s p) (sym is-found) (reached-kept e w x))
+
+  -- no other event frees
+  pub freed-unreached : (e : Event) (a : RecordNumber) → outcome s p e .answer ≡ Freed a → (w : ℕ) → Reaches s p w a → ⊥
+  unfolding outcome does makes moves drops loads stores
+  freed-unreached (Make v r) a = decided-outcome (Unreached a) p (λ why z w x. told-apart z) _ _ (λ t z w x. told-apart z)
+  freed-unreached (Move v r q) a = decided-outcome (Unreached a) p (λ why z w x. told-apart z) _ _ (λ t z w x. told-apart z)
+  freed-unreached (Drop v r) a = decided-outcome (Unreached a) p (λ why z w x. told-apart z) _ _ (λ t z w x. told-apart z)
+  freed-unreached (Load v r q f) a = decided-outcome (Unreached a) p (λ why z w x. told-apart z) _ _ (λ t z w x. told-apart z)
+  freed-unreached (Store v q f r) a = decided-outcome (Unreached a) p (λ why z w x. told-apart z) _ _ (λ t z w x. told-apart z)
+  freed-unreached Collect a = decided-outcome (Unreached a) p (λ why z w x. told-apart z) _ _ (λ t. collected-unreached a)

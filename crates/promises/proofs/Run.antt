@@ -1,0 +1,279 @@
+-- Every event keeps the invariant, so that it holds at each place of a run from the fresh pool.
+--     State                the invariant of a pool, in its own phase at its own position
+--     arrived              the collector moves to a phase and a position
+--     collects-kept        the collect event
+--     makes-kept .. stores-kept     the worker events
+--     event-kept, run-kept          every event, and a run
+-- Assumes nothing.
+use Prim.Native.Nat.{ℕ, zero, suc, _+_, _≤_, _<_, zero-le}
+use mathlib.Core.Path.{_≡_, refl, sym, _∙_, subst}
+use mathlib.Core.Logic.{_⊎_, inl, inr}
+use mathlib.Core.Bool.{Bool, true, false, cond}
+use mathlib.Core.List.{List, [], _++_}
+use native.Mathlib.Omega.{arith}
+use borrow.Author.Tests.{leb-true, leb-false, lt-ltb, le-leb, lt-leb}
+use lib.Dec.{ltb, leb}
+use lib.ListN.{length, drop, set, drop-of-length-le}
+use Rattle.rules.specs.declared.Sizes.{Sizes}
+use Rattle.rules.specs.declared.RecordNumber.{RecordNumber}
+use Rattle.rules.specs.declared.LinkNumber.{LinkNumber}
+use Rattle.rules.specs.declared.Collector.{Collector}
+use Rattle.rules.specs.Size.{links}
+use Rattle.rules.specs.Pool.{Entry, Pool, snoopsAt, registersAt, logAt, withHeld, withSnoop, withLog, withHistory, withChanged}
+use Rattle.rules.specs.Collect.{phaseAfter, lastOf, onward, opens, snoops, madeBy, takes, noEntry, entryHere, clears, heldBy, scans, falls, rises, counted, counts, passes, reclaimed, emptiedFrom, frees, closes, reclaim, reclaims, collects}
+use Rattle.rules.specs.Sound.{Each, Sound}
+use Rattle.laws.proofs.Number.{record-same}
+use Rattle.laws.proofs.Lists.{Each-at}
+use Rattle.laws.proofs.Search.{Passed, passed, reclaimed-passes}
+use Rattle.laws.proofs.Phases.{by-phase, moved, onward-cases, after-snooping, after-taking, after-clearing, after-scanning, after-counting}
+use Rattle.soundness.proofs.Core.{Core, core-in, position-in, empty-in}
+use Rattle.soundness.proofs.Take.{core-taken, core-made}
+use Rattle.soundness.proofs.Clear.{core-cleared}
+use Rattle.soundness.proofs.Reclaim.{emptied-collector, core-emptied-from}
+use Rattle.soundness.proofs.Known.{entry-below}
+use Rattle.promises.proofs.Invariant.{Used, Named, Phased}
+use Rattle.promises.proofs.Grow.{named-raised, phased-raised}
+use Rattle.promises.proofs.Cycle.{phased-none, phased-opened, snooped-flags, named-taken, logs-taken, phased-taken, marked-kept, named-cleared, phased-cleared, scanned-flags, phased-scanned, named-counted, phased-counted}
+use Rattle.promises.proofs.Lost.{Lost, passed-lost, Emptied, emptied-through, named-freed, phased-freed, named-closed}
+
+pub record State (s : Sizes) (p : Pool) : Type 0 where
+  pub named : Named s p
+  pub phased : Phased s p (p .collector .phase) (p .collector .position)
+
+arrived : {s : Sizes} {q : Pool} (k i : ℕ) → Named s q → Phased s q k i → State s (moved k i q)
+arrived {s} {q} k i n x =
+    record {
+      named = named-raised (q .records .count) (q .records .held) (q .workers .snoop) (moved k i q .collector) n;
+      phased = phased-raised (q .records .count) (q .records .held) (q .workers .snoop) (moved k i q .collector) (λ a h. h) (x .snoop) x;
+    }
+
+-- ---- the collector
+
+module _ {s : Sizes} {p : Pool} (sound : Sound s p) (state : State s p) where
+  abbrev here : ℕ
+  here = p .collector .position
+
+  pub phased-in : (k : ℕ) → p .collector .phase ≡ k → Phased s p k here
+  phased-in k e = subst (λ (n : ℕ). Phased s p n here) e (state .phased)
+
+  opens-kept : p .collector .phase ≡ 0 → State s (opens s p .pool)
+  unfolding opens
+  opens-kept e = arrived 1 0 (state .named) (phased-opened here (phased-in 0 e))
+
+  snoops-kept : p .collector .phase ≡ 1 → State s (snoops s p .pool)
+  unfolding snoops
+  snoops-kept e =
+      onward-cases (State s) q (s .w) 1 2 e (after-snooping (p .history))
+      (λ k. arrived 1 (suc here) n (phased-none 1 (suc here) (omega arith) refl flags))
+      (λ k. arrived 2 0 n (phased-none 2 0 (omega arith) refl (λ w h. flags w h ∙ lt-ltb w (suc here) (omega arith))))
+    where
+      q : Pool
+      q = withSnoop here true p
+
+      n : Named s q
+      n = named-raised (p .records .count) (p .records .held) (set (p .workers .snoop) here true) (p .collector) (state .named)
+
+      flags : (w : ℕ) → w < s .w → snoopsAt q w ≡ ltb w (suc here)
+      flags = snooped-flags here (omega (arith, sound .shaped .workers .snoop, position-in sound 1 e)) (phased-in 1 e)
+
+  takes-kept : p .collector .phase ≡ 2 → State s (takes s p .pool)
+  unfolding takes madeBy
+  takes-kept e =
+      onward-cases (State s) q (s .w) 2 (phaseAfter 2 (q .history)) e refl
+      (λ k. arrived 2 (suc here) n (phased-taken c here worker 2 (suc here) (omega arith) refl (λ v h. refl) (λ four. absurd (omega arith)) x))
+      (λ k.
+      after-taking (λ next. State s (moved next 0 q)) (q .history)
+      (λ f.
+      arrived 4 0 n
+      (phased-taken c here worker 4 0 k refl (λ v h. sym (le-leb 0 v zero-le))
+      (λ four.
+      marked-kept (subst (λ (xs : List Entry). Core s q xs (q .history)) f (core-made (core-taken c here worker) here))
+      (λ w h. logs-taken c here worker x w (omega arith)))
+      x))
+      (λ y ys f. arrived 3 0 n (phased-taken c here worker 3 0 k refl (λ v h. refl) (λ four. absurd (omega arith)) x)))
+    where
+      q : Pool
+      q = madeBy here (withLog here [] (withHistory (p .history ++ logAt p here) p))
+
+      worker : here < s .w
+      worker = position-in sound 2 e
+
+      c : Core s p (p .history) (p .history)
+      c = core-in sound 2 e
+
+      x : Phased s p 2 here
+      x = phased-in 2 e
+
+      n : Named s q
+      n = named-taken c here worker (state .named)
+
+  clears-kept : p .collector .phase ≡ 3 → State s (clears s p .pool)
+  unfolding clears
+  clears-kept e =
+      onward-cases (State s) q (length (p .history)) 3 4 e (after-clearing (p .history))
+      (λ k. arrived 3 (suc here) n (phased-cleared c m inside 3 (suc here) (omega arith) (omega arith) refl (λ v h. refl) (λ four. absurd (omega arith)) x))
+      (λ k.
+      arrived 4 0 n
+      (phased-cleared c m inside 4 0 (omega arith) (omega arith) refl (λ v h. sym (le-leb 0 v zero-le))
+      (λ four.
+      marked-kept
+      (subst (λ (xs : List Entry). Core s q xs (p .history)) (drop-of-length-le (p .history) k) (core-cleared here c (position-in sound 3 e) noEntry))
+      (λ w h. x .logged (omega arith) (omega arith) w h))
+      x))
+    where
+      m : LinkNumber
+      m = entryHere p .link
+
+      q : Pool
+      q = withChanged m false p
+
+      c : Core s p (drop here (p .history)) (p .history)
+      c = core-in sound 3 e
+
+      inside : m .0 < links s
+      inside = entry-below sound (position-in sound 3 e) .link
+
+      x : Phased s p 3 here
+      x = phased-in 3 e
+
+      n : Named s q
+      n = named-cleared c m inside (state .named)
+
+  scans-kept : p .collector .phase ≡ 4 → State s (scans s p .pool)
+  unfolding scans
+  scans-kept e =
+      onward-cases (State s) q (s .w) 4 (phaseAfter 4 (p .history)) e refl
+      (λ k. arrived 4 (suc here) n (phased-scanned c here worker 4 (suc here) (omega arith) (omega arith) (omega arith) flags x))
+      (λ k.
+      after-scanning (λ next. State s (moved next 0 q)) (p .history)
+      (λ f. arrived 6 0 n (phased-scanned c here worker 6 0 (omega arith) (omega arith) k (off k) x))
+      (λ y ys f. arrived 5 0 n (phased-scanned c here worker 5 0 (omega arith) (omega arith) k (off k) x)))
+    where
+      q : Pool
+      q = withHeld (heldBy (registersAt p here) (p .records .held)) (withSnoop here false p)
+
+      worker : here < s .w
+      worker = position-in sound 4 e
+
+      c : Core s p [] (p .history)
+      c = core-in sound 4 e
+
+      x : Phased s p 4 here
+      x = phased-in 4 e
+
+      n : Named s q
+      n = named-raised (p .records .count) (q .records .held) (q .workers .snoop) (p .collector) (state .named)
+
+      flags : (v : ℕ) → v < s .w → snoopsAt q v ≡ leb (suc here) v
+      flags = scanned-flags c here worker x
+
+      -- after the last worker no flag is on
+      off : s .w ≤ suc here → (v : ℕ) → v < s .w → snoopsAt q v ≡ false
+      off k v h = flags v h ∙ lt-leb (suc here) v (omega arith)
+
+  counts-kept : p .collector .phase ≡ 5 → State s (counts s p .pool)
+  unfolding counts counted falls rises
+  counts-kept e = by-place (lastOf n p) refl
+    where
+      n : ℕ
+      n = length (p .history)
+
+      entry : Entry
+      entry = entryHere p
+
+      inside : here < n
+      inside = position-in sound 5 e
+
+      x : Phased s p 5 here
+      x = phased-in 5 e
+
+      at-entry : (P : Entry → Type 0) → Each P (p .history) → P entry
+      at-entry P h = Each-at P (p .history) here noEntry inside h
+
+      used : Used p (entry .old)
+      used = at-entry (λ y. Used p (y .old)) (state .named .history)
+
+      by-place : (b : Bool) → lastOf n p ≡ b → State s (onward n (withHistory (cond b [] (p .history)) (counted entry p)))
+      by-place true last =
+          let over : n ≤ suc here = leb-true n (suc here) last in
+          let none-left : (P : Entry → Type 0) → Each P (p .history) → Each P [] = λ P h. tt in
+          onward-cases (State s) (withHistory [] (counted entry p)) n 5 6 e (after-counting []) (λ k. absurd (omega arith))
+          (λ k.
+          arrived 6 0 (named-counted s p entry [] none-left used (state .named))
+          (phased-counted s p entry [] none-left 6 0 (omega arith) (omega arith) (omega arith) (λ v h. refl) at-entry x))
+      by-place false more =
+          let left : suc here < n = leb-false n (suc here) more in
+          let same : (P : Entry → Type 0) → Each P (p .history) → Each P (p .history) = λ P h. h in
+          onward-cases (State s) (withHistory (p .history) (counted entry p)) n 5 6 e (after-counting (p .history))
+          (λ k.
+          arrived 5 (suc here) (named-counted s p entry (p .history) same used (state .named))
+          (phased-counted s p entry (p .history) same 5 (suc here) (omega arith) (omega arith) (omega arith) (λ v h. refl) at-entry x))
+          (λ k. absurd (omega arith))
+
+  -- what phase 6 takes is lost, and its links are emptied
+  module _ (e : p .collector .phase ≡ 6) where
+    core-6 : Core s p [] []
+    core-6 = core-in sound 6 e
+
+    pub taken-lost : (y : RecordNumber) → 1 ≤ y .0 → y .0 ≤ s .n → Passed s p y → Lost s p y
+    taken-lost y some low pass = passed-lost core-6 (phased-in 6 e) (empty-in sound 6 e tt) y some low pass
+
+    frees-kept : (y : RecordNumber) → 1 ≤ y .0 → y .0 ≤ s .n → Passed s p y → State s (frees s y p)
+    unfolding frees
+    frees-kept y some low pass =
+        record {
+          named = named-freed s q y some low-used low-candidate all;
+          phased = subst (λ (c : Collector). Phased s (frees s y p) (c .phase) (c .position)) (sym (emptied-collector s y 0 (s .k) p)) (subst (λ (k : ℕ). Phased s (frees s y p) k here) (sym e) (phased-freed s q y some low-used low-candidate all));
+        }
+      where
+        q : Pool
+        q = emptiedFrom s y 0 (s .k) p
+
+        start : Emptied s y here 0 p
+        start =
+            record {
+              named = state .named;
+              phased = phased-in 6 e;
+              lost = taken-lost y some low pass;
+              none-left = λ g h. absurd (omega arith);
+              values = sound .shaped .links .value;
+            }
+
+        all : Emptied s y here (s .k) q
+        all = subst (λ (m : ℕ). Emptied s y here m q) (let z : 0 + s .k ≡ s .k = omega arith in z) (emptied-through s y here 0 (s .k) p some low (omega arith) start)
+
+        after : Core s q [] []
+        after = core-emptied-from s y 0 (s .k) p core-6 some low (omega arith) (λ g i j. pass .unchanged g (omega arith))
+
+        low-used : y .0 ≤ length (q .records .used)
+        low-used = omega (arith, after .shaped .records .used)
+
+        low-candidate : y .0 ≤ length (q .records .candidate)
+        low-candidate = omega (arith, after .shaped .records .candidate)
+
+    closes-kept : State s (closes p)
+    unfolding closes
+    closes-kept =
+        record {
+          named = named-closed (sound .shaped .records .candidate ∙ sym (sound .shaped .records .count)) (state .named);
+          phased = phased-none 0 0 (omega arith) refl (phased-in 6 e .snoop);
+        }
+
+    reclaims-kept : State s (reclaims s p .pool)
+    unfolding reclaims reclaim
+    reclaims-kept = by-number (found .0) refl (reclaimed-passes s p)
+      where
+        found : RecordNumber
+        found = reclaimed s p
+
+        by-number : (k : ℕ) → found .0 ≡ k → (found .0 ≡ 0) ⊎ ((passes s p found ≡ true) × (1 ≤ found .0) × (found .0 ≤ s .n)) → State s (reclaim s p k .pool)
+        by-number zero f x = closes-kept
+        by-number (suc i) f (inl z) = absurd (omega arith)
+        by-number (suc i) f (inr x) =
+            let y : RecordNumber = record { 0 = suc i } in
+            let pass : passes s p y ≡ true = subst (λ (b : RecordNumber). passes s p b ≡ true) (record-same found y f) (x .0) in
+            frees-kept y (omega arith) (omega (arith, x .2)) (passed s p y pass)
+
+  pub collects-kept : State s (collects s p .pool)
+  collects-kept =
+      by-phase s p (λ o. State s (o .pool)) (sound .phase) opens-kept snoops-kept takes-kept clears-kept scans-kept counts-kept reclaims-kept
