@@ -9,6 +9,7 @@
 --     Chosen     what a make picks
 --     Search     what phase 6 takes next
 --     Marks      what the collector's steps do to makers, candidate marks and held marks
+--     Change     what a store and the emptying of links leave as it was
 --     Refusals   what is known of an event that is not refused
 --     Phases     the list of phases, and how a step moves on
 pub mod Tests
@@ -21,5 +22,6 @@ pub mod Room
 pub mod Chosen
 pub mod Search
 pub mod Marks
+pub mod Change
 pub mod Refusals
 pub mod Phases

@@ -8,7 +8,7 @@
 use Prim.Native.Nat.{ℕ, zero, suc, _≤_, _<_}
 use mathlib.Core.Path.{_≡_, refl, sym, ap, _∙_, subst}
 use mathlib.Core.Logic.{_⊎_, inl, inr, ⊎-elim}
-use mathlib.Core.Bool.{Bool, true, false, cond, true≢false}
+use mathlib.Core.Bool.{true, false, true≢false}
 use mathlib.Core.List.{List, [], _∷_}
 use native.Mathlib.Omega.{arith}
 use native.Mathlib.Decide.{ℕ-discrete}
@@ -19,14 +19,15 @@ use Rattle.rules.specs.declared.LinkNumber.{LinkNumber}
 use Rattle.rules.specs.declared.Event.{Event}
 use Rattle.rules.specs.declared.Event.the-variants.{Make, Move, Drop, Load, Store, Collect}
 use Rattle.rules.specs.Size.{inRange, linkNumber}
-use Rattle.rules.specs.Pool.{Pool, none, withRecord, usedAt, valueAt, registerAt, snoopsAt, withHeld, withValue, withRegister, fresh}
-use Rattle.rules.specs.Worker.{chosen, makes, moves, drops, loads, mustLog, added, logged, snooped, stores}
-use Rattle.rules.specs.Collect.{onward, opens, snoops, madeBy, takes, clears, scans, falls, rises, counted, counts, emptied, emptiedFrom, frees, closes, reclaim, reclaimed, reclaims, collects}
+use Rattle.rules.specs.Pool.{Pool, none, usedAt, valueAt, registerAt, withRegister, fresh}
+use Rattle.rules.specs.Worker.{chosen, makes, moves, drops, loads, added, stores}
+use Rattle.rules.specs.Collect.{onward, opens, snoops, madeBy, takes, clears, scans, falls, rises, counted, counts, emptied, frees, closes, reclaim, reclaimed, reclaims, collects}
 use Rattle.rules.specs.Outcome.{does, outcome, after}
 use Rattle.rules.specs.Sound.{Sound}
 use Rattle.laws.proofs.Number.{record-same, link-apart}
 use Rattle.laws.proofs.Lists.{set-cases}
 use Rattle.laws.proofs.Chosen.{chosen-free}
+use Rattle.laws.proofs.Change.{stored-has, emptied-keeps, emptied-values}
 use Rattle.laws.proofs.Refusals.{LinkThere, decided, can-make, can-load, can-store}
 use Rattle.laws.proofs.Phases.{by-phase}
 use Rattle.soundness.proofs.Fresh.{nothing-held}
@@ -133,28 +134,12 @@ module _ {s : Sizes} {p : Pool} (w q f r : ℕ) (there : LinkThere s p w q f) wh
 
   -- registers stay, and one link takes what register r holds
   stored-registers : after-store .workers .registers ≡ p .workers .registers
-  unfolding stores snooped logged added
-  stored-registers = by-cases (snoopsAt (withValue link taken (logged w link p)) w) (mustLog p link)
-    where
-      by-cases : (c b : Bool)
-          → cond c (withHeld (withRecord (withValue link taken (cond b (added w link p) p) .records .held) (taken .0) true) (withValue link taken (cond b (added w link p) p))) (withValue link taken (cond b (added w link p) p)) .workers .registers
-          ≡ p .workers .registers
-      by-cases true true = refl
-      by-cases true false = refl
-      by-cases false true = refl
-      by-cases false false = refl
+  unfolding added
+  stored-registers = stored-has s p w q f r (λ t. t .workers .registers ≡ p .workers .registers) (λ marks t h. h) refl refl
 
   stored-values : after-store .links .value ≡ set (p .links .value) (link .0) taken
-  unfolding stores snooped logged added
-  stored-values = by-cases (snoopsAt (withValue link taken (logged w link p)) w) (mustLog p link)
-    where
-      by-cases : (c b : Bool)
-          → cond c (withHeld (withRecord (withValue link taken (cond b (added w link p) p) .records .held) (taken .0) true) (withValue link taken (cond b (added w link p) p))) (withValue link taken (cond b (added w link p) p)) .links .value
-          ≡ set (p .links .value) (link .0) taken
-      by-cases true true = refl
-      by-cases true false = refl
-      by-cases false true = refl
-      by-cases false false = refl
+  unfolding added
+  stored-values = stored-has s p w q f r (λ t. t .links .value ≡ set (p .links .value) (link .0) taken) (λ marks t h. h) refl refl
 
   -- a link that v follows after the store: it holds what it held, or it is the one stored to, of a record that w reaches, so that v is w
   follow : Apart s p → (v : ℕ) (a b : RecordNumber) (g : ℕ) → Reaches s p v a → g < s .k
@@ -182,28 +167,13 @@ module _ {s : Sizes} {p : Pool} (w q f r : ℕ) (there : LinkThere s p w q f) wh
 
 -- ---- the collector
 
-emptied-workers : (s : Sizes) (a : RecordNumber) (f left : ℕ) (p : Pool) → emptiedFrom s a f left p .workers ≡ p .workers
-unfolding emptiedFrom emptied falls
-emptied-workers s a f zero p = refl
-emptied-workers s a f (suc left) p = emptied-workers s a (suc f) left (emptied (linkNumber s a f) p)
-
-emptied-values : (s : Sizes) (a : RecordNumber) (f left : ℕ) (p : Pool) (l : LinkNumber)
-    → (valueAt (emptiedFrom s a f left p) l ≡ valueAt p l) ⊎ (valueAt (emptiedFrom s a f left p) l ≡ none)
-unfolding emptiedFrom emptied falls
-emptied-values s a f zero p l = inl refl
-emptied-values s a f (suc left) p l =
-    ⊎-elim
-    (λ e. ⊎-elim (λ same. inl (e ∙ same)) (λ here. inr (e ∙ here .1)) (set-cases (p .links .value) (linkNumber s a f .0) none l.0 none))
-    inr
-    (emptied-values s a (suc f) left (emptied (linkNumber s a f) p) l)
-
 -- a collector step takes nothing up: registers stay, and a link keeps its value or becomes none
 pub record Shrunk (p q : Pool) : Type 0 where
   pub registers : (v r : ℕ) → registerAt q v r ≡ registerAt p v r
   pub values : (l : LinkNumber) → (valueAt q l ≡ valueAt p l) ⊎ (valueAt q l ≡ none)
 
 collected : (s : Sizes) (p : Pool) → p .collector .phase ≤ 6 → Shrunk p (collects s p .pool)
-unfolding opens onward snoops madeBy takes clears scans counted falls rises counts closes reclaim reclaims frees
+unfolding opens onward snoops madeBy takes clears scans counted falls rises counts closes reclaim reclaims frees emptied
 collected s p h =
     by-phase s p (λ o. Shrunk p (o .pool)) h
     (λ e. record { registers = λ v r. refl; values = λ l. inl refl })
@@ -218,7 +188,7 @@ collected s p h =
     by-number zero = record { registers = λ v r. refl; values = λ l. inl refl }
     by-number (suc i) =
         record {
-          registers = λ v r. ap (λ ws. getD (getD (ws .registers) v []) r none) (emptied-workers s (record { 0 = suc i }) 0 (s .k) p);
+          registers = λ v r. ap (λ ws. getD (getD (ws .registers) v []) r none) (emptied-keeps (λ q. q .workers) (λ l q. refl) s (record { 0 = suc i }) 0 (s .k) p);
           values = λ l. emptied-values s (record { 0 = suc i }) 0 (s .k) p l;
         }
 

@@ -20,16 +20,17 @@ use Rattle.rules.specs.declared.LinkNumber.{LinkNumber}
 use Rattle.rules.specs.declared.Collector.{Collector}
 use Rattle.rules.specs.Size.{links}
 use Rattle.rules.specs.Pool.{Entry, Pool, snoopsAt, registersAt, logAt, withHeld, withSnoop, withLog, withHistory, withChanged}
-use Rattle.rules.specs.Collect.{phaseAfter, lastOf, onward, opens, snoops, madeBy, takes, noEntry, entryHere, clears, heldBy, scans, falls, rises, counted, counts, passes, reclaimed, emptiedFrom, frees, closes, reclaim, reclaims, collects}
+use Rattle.rules.specs.Collect.{phaseAfter, lastOf, onward, opens, snoops, madeBy, takes, noEntry, entryHere, clears, heldBy, scans, falls, rises, counted, counts, passes, reclaimed, emptied, emptiedFrom, frees, closes, reclaim, reclaims, collects}
 use Rattle.rules.specs.Sound.{Each, Sound}
 use Rattle.laws.proofs.Number.{record-same}
 use Rattle.laws.proofs.Lists.{Each-at}
+use Rattle.laws.proofs.Change.{emptied-keeps}
 use Rattle.laws.proofs.Search.{Passed, passed, reclaimed-passes}
 use Rattle.laws.proofs.Phases.{by-phase, moved, onward-cases, after-snooping, after-taking, after-clearing, after-scanning, after-counting}
 use Rattle.soundness.proofs.Core.{Core, core-in, position-in, empty-in}
 use Rattle.soundness.proofs.Take.{core-taken, core-made}
 use Rattle.soundness.proofs.Clear.{core-cleared}
-use Rattle.soundness.proofs.Reclaim.{emptied-collector, core-emptied-from}
+use Rattle.soundness.proofs.Reclaim.{core-emptied-from}
 use Rattle.soundness.proofs.Known.{entry-below}
 use Rattle.promises.proofs.Invariant.{Used, Named, Phased}
 use Rattle.promises.proofs.Grow.{named-raised, phased-raised}
@@ -219,11 +220,11 @@ module _ {s : Sizes} {p : Pool} (sound : Sound s p) (state : State s p) where
     taken-lost y some low pass = passed-lost core-6 (phased-in 6 e) (empty-in sound 6 e tt) y some low pass
 
     frees-kept : (y : RecordNumber) → 1 ≤ y .0 → y .0 ≤ s .n → Passed s p y → State s (frees s y p)
-    unfolding frees
+    unfolding frees emptied falls
     frees-kept y some low pass =
         record {
           named = named-freed s q y some low-used low-candidate all;
-          phased = subst (λ (c : Collector). Phased s (frees s y p) (c .phase) (c .position)) (sym (emptied-collector s y 0 (s .k) p)) (subst (λ (k : ℕ). Phased s (frees s y p) k here) (sym e) (phased-freed s q y some low-used low-candidate all));
+          phased = subst (λ (c : Collector). Phased s (frees s y p) (c .phase) (c .position)) (sym (emptied-keeps (λ r. r .collector) (λ l r. refl) s y 0 (s .k) p)) (subst (λ (k : ℕ). Phased s (frees s y p) k here) (sym e) (phased-freed s q y some low-used low-candidate all));
         }
       where
         q : Pool

@@ -4,6 +4,7 @@
 --     outcome                     from sizes, pool and event to answer and pool
 --     start                       a pool made fresh by its sizes
 --     answers, after              a run from a pool: its answers, and the pool at its end
+--     usedAfter, inUse            the records that are used, by the answers of a run alone
 --     freeRecords                 how many records are free
 -- Refusal 1 for a lent table's length, and 2, belong to the call on lent tables, which asks for them before it does what `outcome` says. Assumes nothing.
 use Prim.Native.Nat.{ℕ, zero, suc}
@@ -12,12 +13,13 @@ use mathlib.Core.List.{List, [], _∷_}
 use lib.Dec.{eqb, ltb, leb}
 use lib.ListN.{length}
 use Rattle.rules.specs.declared.Sizes.{Sizes}
+use Rattle.rules.specs.declared.RecordNumber.{RecordNumber}
 use Rattle.rules.specs.declared.Event.{Event}
 use Rattle.rules.specs.declared.Event.the-variants.{Make, Move, Drop, Load, Store, Collect}
 use Rattle.rules.specs.declared.Refusal.{Refusal}
 use Rattle.rules.specs.declared.Refusal.the-variants.{WrongSize, NoSuch, HoldsNone, NoneFree, LogFull}
 use Rattle.rules.specs.declared.Answer.{Answer}
-use Rattle.rules.specs.declared.Answer.the-variants.{Fresh, Refused}
+use Rattle.rules.specs.declared.Answer.the-variants.{Fresh, Made, Moved, Dropped, Loaded, Stored, Stepped, Freed, Refused}
 use Rattle.rules.specs.Size.{inRange, links, linkNumber}
 use Rattle.rules.specs.Pool.{Pool, registerAt, logAt, fresh}
 use Rattle.rules.specs.Reply.{Outcome}
@@ -104,6 +106,26 @@ answers s p (e ∷ events) = let o = outcome s p e in o .answer ∷ answers s (o
 unfoldable pub after : Sizes → Pool → List Event → Pool
 after s p [] = p
 after s p (e ∷ events) = after s (outcome s p e .pool) events
+
+-- whether a record is used after an answer: a make uses the record that it answers, and a collector step frees the one that it answers
+abbrev pub sameRecord : RecordNumber → RecordNumber → Bool
+sameRecord b a = eqb (b .0) (a .0)
+
+unfoldable pub usedAfter : RecordNumber → Bool → Answer → Bool
+usedAfter a before Fresh = before
+usedAfter a before (Made b) = cond (sameRecord b a) true before
+usedAfter a before (Moved b) = before
+usedAfter a before Dropped = before
+usedAfter a before (Loaded b) = before
+usedAfter a before (Stored b) = before
+usedAfter a before Stepped = before
+usedAfter a before (Freed b) = cond (sameRecord b a) false before
+usedAfter a before (Refused why) = before
+
+-- "the makes answered with 0 less the records freed"
+unfoldable pub inUse : RecordNumber → Bool → List Answer → Bool
+inUse a before [] = before
+inUse a before (x ∷ rest) = inUse a (usedAfter a before x) rest
 
 -- "how many records are free"
 unfoldable pub freeMarks : List Bool → ℕ

@@ -54,7 +54,8 @@ pub record Shaped (s : Sizes) (p : Pool) : Type 0 where
 
 -- ---- the phase
 
--- "position below W in phases 1, 2, 4, below the history's length in 3 and 5, else 0": how many positions each phase has, from phase 0 on
+-- "position below W in phases 1, 2, 4, below the history's length in 3 and 5, else 0": how many positions each phase has, from phase 0 on. Phases 0
+-- and 6 have one, and a number below 1 is 0
 unfoldable pub positions : Sizes → Pool → ℕ
 positions s p = getD (1 ∷ s .w ∷ s .w ∷ length (p .history) ∷ s .w ∷ length (p .history) ∷ []) (p .collector .phase) 1
 

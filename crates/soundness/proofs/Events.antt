@@ -2,7 +2,7 @@
 --     makes-sound .. stores-sound     the events where nothing refuses them
 -- Assumes nothing.
 use Prim.Native.Nat.{ℕ, _+_, _≤_, _<_, zero-le}
-use mathlib.Core.Path.{_≡_, refl, sym, _∙_}
+use mathlib.Core.Path.{refl, sym, _∙_}
 use mathlib.Core.Bool.{Bool, true, false, cond}
 use native.Mathlib.Omega.{arith}
 use Rattle.rules.specs.declared.Sizes.{Sizes}
@@ -10,33 +10,16 @@ use Rattle.rules.specs.declared.RecordNumber.{RecordNumber}
 use Rattle.rules.specs.declared.LinkNumber.{LinkNumber}
 use Rattle.rules.specs.Size.{linkNumber}
 use Rattle.rules.specs.Pool.{Pool, none, withRecord, registerAt, snoopsAt, withHeld, withValue, withRegister}
-use Rattle.rules.specs.Worker.{chosen, makes, moves, drops, loads, mustLog, added, logged, snooped, stores}
+use Rattle.rules.specs.Worker.{chosen, makes, moves, drops, loads, added, logged, snooped, stores}
 use Rattle.rules.specs.Sound.{Sound, uncleared, uncounted}
 use Rattle.laws.proofs.Number.{link-inside}
 use Rattle.laws.proofs.Chosen.{chosen-low}
+use Rattle.laws.proofs.Change.{logged-keeps}
 use Rattle.laws.proofs.Lists.{length-withRecord, withRecord-keeps}
 use Rattle.soundness.proofs.Core.{Core, core}
 use Rattle.soundness.proofs.Parts.{core-register, core-records}
 use Rattle.soundness.proofs.Store.{core-stored}
 use Rattle.soundness.proofs.Steps.{stays}
-
--- ---- store: what it logs moves neither the collector's record nor the history
-
-logged-collector : (w : ℕ) (l : LinkNumber) (p : Pool) → logged w l p .collector ≡ p .collector
-unfolding logged added
-logged-collector w l p = by-mark (mustLog p l)
-  where
-    by-mark : (b : Bool) → cond b (added w l p) p .collector ≡ p .collector
-    by-mark true = refl
-    by-mark false = refl
-
-logged-history : (w : ℕ) (l : LinkNumber) (p : Pool) → logged w l p .history ≡ p .history
-unfolding logged added
-logged-history w l p = by-mark (mustLog p l)
-  where
-    by-mark : (b : Bool) → cond b (added w l p) p .history ≡ p .history
-    by-mark true = refl
-    by-mark false = refl
 
 -- ---- the events
 
@@ -78,7 +61,7 @@ module _ {s : Sizes} {p : Pool} (h : Sound s p) where
   loads-sound w r q f = takes-register w r _ (h .values (linkNumber s (registerAt p w q) f))
 
   pub stores-sound : (w q f r : ℕ) → w < s .w → f < s .k → 1 ≤ registerAt p w q .0 → Sound s (stores s w q f r p .pool)
-  unfolding stores snooped
+  unfolding stores snooped added
   stores-sound w q f r kw kf some = by-snoop (snoopsAt t w)
     where
       l : LinkNumber
@@ -95,11 +78,11 @@ module _ {s : Sizes} {p : Pool} (h : Sound s p) where
 
       by-snoop : (b : Bool) → Sound s (cond b (withHeld (withRecord (t .records .held) (a .0) true) t) t)
       by-snoop true =
-          stays h (withHeld (withRecord (t .records .held) (a .0) true) t) (sym (logged-collector w l p)) (sym (logged-history w l p))
+          stays h (withHeld (withRecord (t .records .held) (a .0) true) t) (sym (logged-keeps (λ y. y .collector) w l p refl)) (sym (logged-keeps (λ y. y .history) w l p refl))
           (core-records c (t .records .used) (withRecord (t .records .held) (a .0) true) (t .records .candidate) (t .records .maker)
           (c .shaped .records .used)
           (length-withRecord (t .records .held) (a .0) true ∙ c .shaped .records .held)
           (c .shaped .records .candidate)
           (c .shaped .records .maker)
           (c .makers))
-      by-snoop false = stays h t (sym (logged-collector w l p)) (sym (logged-history w l p)) c
+      by-snoop false = stays h t (sym (logged-keeps (λ y. y .collector) w l p refl)) (sym (logged-keeps (λ y. y .history) w l p refl)) c

@@ -22,9 +22,10 @@ use Rattle.rules.specs.declared.LinkNumber.{LinkNumber}
 use Rattle.rules.specs.Size.{links, linkNumber}
 use Rattle.rules.specs.Pool.{Pool, countAt, valueAt, changedAt, registerAt, logAt}
 use Rattle.rules.specs.View.{bit, times, allLogs}
-use Rattle.rules.specs.Collect.{noEntry, entryHere, emptiedFrom}
+use Rattle.rules.specs.Collect.{noEntry, entryHere, falls, emptied, emptiedFrom}
 use Rattle.rules.specs.Sound.{Sound, EntryInRange, countsFor}
 use Rattle.laws.proofs.Number.{link-inside}
+use Rattle.laws.proofs.Change.{emptied-keeps}
 use Rattle.laws.proofs.Search.{Passed}
 use Rattle.laws.proofs.Lists.{length-flatten, Each-at}
 use Rattle.laws.proofs.Tally.{tally-most}
@@ -32,7 +33,7 @@ use Rattle.laws.proofs.Room.{room-left}
 use Rattle.soundness.proofs.Core.{Core, core, core-in, position-in, history-room, times-most, links-in-range}
 use Rattle.soundness.proofs.Take.{core-taken}
 use Rattle.soundness.proofs.Count.{old-counted, value-counted}
-use Rattle.soundness.proofs.Reclaim.{emptied-changed, core-emptied-from}
+use Rattle.soundness.proofs.Reclaim.{core-emptied-from}
 
 module _ {s : Sizes} {p : Pool} (h : Sound s p) where
   -- registers, links and entries hold record numbers 0..N (`registers`, `values`, `logs` and `history` of `Sound`); one that is not none has its place
@@ -74,6 +75,7 @@ module _ {s : Sizes} {p : Pool} (h : Sound s p) where
   pub value-has-count : (a : RecordNumber) (f : ℕ) → p .collector .phase ≡ 6 → 1 ≤ a .0 → a .0 ≤ s .n → Passed s p a → f < s .k
       → 1 ≤ valueAt (emptiedFrom s a 0 f p) (linkNumber s a f) .0
       → 1 ≤ countAt (emptiedFrom s a 0 f p) (valueAt (emptiedFrom s a 0 f p) (linkNumber s a f))
+  unfolding emptied falls
   value-has-count a f e some low pass k there =
       let q : Pool = emptiedFrom s a 0 f p in
       let l : LinkNumber = linkNumber s a f in
@@ -81,5 +83,5 @@ module _ {s : Sizes} {p : Pool} (h : Sound s p) where
       let c : Core s q [] [] =
       core-emptied-from s a 0 f p (core-in h 6 e) some low (omega arith) (λ g i j. pass .unchanged g (omega arith)) in
       let off : changedAt q l ≡ false =
-      ap (λ (marks : List Bool). getD marks l.0 false) (emptied-changed s a 0 f p) ∙ pass .unchanged f k in
+      ap (λ (marks : List Bool). getD marks l.0 false) (emptied-keeps (λ q. q .links .changed) (λ l q. refl) s a 0 f p) ∙ pass .unchanged f k in
       omega (arith, value-counted c l (link-inside s a f some low k) off v there (c .values l), ap bit (eq-eqb v.0 v.0 refl))

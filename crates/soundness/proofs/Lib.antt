@@ -8,6 +8,7 @@
 --     Fresh      the fresh pool
 --     Kept       the theorems
 --     Known      facts of every sound pool
+--     Used       the used records, by the answers of a run
 pub mod Core
 pub mod Parts
 pub mod Store
@@ -20,3 +21,4 @@ pub mod Events
 pub mod Fresh
 pub mod Kept
 pub mod Known
+pub mod Used

@@ -1,11 +1,10 @@
 -- Phase 6 keeps the core: every mark of the freed record is off, so each of its links counts for its present value, and each emptied link moves from that to
 -- none.
---     emptied-collector, emptied-history, emptied-changed     emptying links moves none of these
 --     core-emptied-from, core-freed   freeing a record
 --     core-closed                     the marks at the close
 -- Assumes nothing.
 use Prim.Native.Nat.{ℕ, zero, suc, _+_, _≤_, _<_}
-use mathlib.Core.Path.{_≡_, refl, sym, _∙_}
+use mathlib.Core.Path.{_≡_, sym, _∙_}
 use mathlib.Core.Bool.{false, _&&_}
 use mathlib.Core.List.{List, [], map, zipWith}
 use native.Mathlib.Omega.{arith}
@@ -24,21 +23,6 @@ use Rattle.soundness.proofs.Parts.{core-records}
 use Rattle.soundness.proofs.Count.{core-emptied}
 
 -- ---- freeing
-
-pub emptied-collector : (s : Sizes) (a : RecordNumber) (f left : ℕ) (p : Pool) → emptiedFrom s a f left p .collector ≡ p .collector
-unfolding emptiedFrom emptied falls
-emptied-collector s a f zero p = refl
-emptied-collector s a f (suc left) p = emptied-collector s a (suc f) left (emptied (linkNumber s a f) p)
-
-pub emptied-history : (s : Sizes) (a : RecordNumber) (f left : ℕ) (p : Pool) → emptiedFrom s a f left p .history ≡ p .history
-unfolding emptiedFrom emptied falls
-emptied-history s a f zero p = refl
-emptied-history s a f (suc left) p = emptied-history s a (suc f) left (emptied (linkNumber s a f) p)
-
-pub emptied-changed : (s : Sizes) (a : RecordNumber) (f left : ℕ) (p : Pool) → emptiedFrom s a f left p .links .changed ≡ p .links .changed
-unfolding emptiedFrom emptied falls
-emptied-changed s a f zero p = refl
-emptied-changed s a f (suc left) p = emptied-changed s a (suc f) left (emptied (linkNumber s a f) p)
 
 pub core-emptied-from : (s : Sizes) (a : RecordNumber) (f left : ℕ) (p : Pool) → Core s p [] [] → 1 ≤ a .0 → a .0 ≤ s .n → f + left ≤ s .k
     → ((g : ℕ) → f ≤ g → g < f + left → changedAt p (linkNumber s a g) ≡ false)

@@ -17,9 +17,10 @@ use Rattle.rules.specs.declared.RecordNumber.{RecordNumber}
 use Rattle.rules.specs.declared.Collector.{Collector}
 use Rattle.rules.specs.Pool.{Entry, Pool, registersAt, logAt, withHeld, withChanged, withSnoop, withLog, withHistory}
 use Rattle.rules.specs.Collect.{phaseAfter, lastOf, onward, opens, snoops, madeBy, takes, entryHere, clears, heldBy, scans, falls, rises, counted, counts}
-use Rattle.rules.specs.Collect.{passes, reclaimed, frees, closes, reclaim, reclaims, collects}
+use Rattle.rules.specs.Collect.{passes, reclaimed, emptied, frees, closes, reclaim, reclaims, collects}
 use Rattle.rules.specs.Sound.{Sound, emptyIn, entriesIn, positions, uncleared, uncounted}
 use Rattle.laws.proofs.Number.{record-same}
+use Rattle.laws.proofs.Change.{emptied-keeps}
 use Rattle.laws.proofs.Search.{passed, reclaimed-passes}
 use Rattle.laws.proofs.Phases.{by-phase, moved, onward-cases, after-snooping, after-taking, after-clearing, after-scanning, after-counting}
 use Rattle.soundness.proofs.Core.{Core, core-in, position-in, empty-in, sound, core-moved, arrives, unclearedIn, uncountedIn, positionsIn}
@@ -27,7 +28,7 @@ use Rattle.soundness.proofs.Parts.{core-records, core-snoop, length-hel
 use Rattle.soundness.proofs.Take.{core-taken, core-made}
 use Rattle.soundness.proofs.Clear.{core-cleared}
 use Rattle.soundness.proofs.Count.{core-counted, core-emptied-history}
-use Rattle.soundness.proofs.Reclaim.{emptied-collector, emptied-history, core-freed, core-closed}
+use Rattle.soundness.proofs.Reclaim.{core-freed, core-closed}
 
 -- ---- an event that leaves the collector and the history as they are
 
@@ -170,9 +171,9 @@ module _ {s : Sizes} {p : Pool} (worker : 0 < s .w) (h : Sound s p) where
 
   -- "Phase 6 stays."
   frees-sound : (a : RecordNumber) → p .collector .phase ≡ 6 → Core s (frees s a p) [] [] → Sound s (frees s a p)
-  unfolding frees uncleared uncounted
+  unfolding frees emptied falls uncleared uncounted
   frees-sound a e c =
-      stays h (frees s a p) (sym (emptied-collector s a 0 (s .k) p)) (sym (emptied-history s a 0 (s .k) p))
+      stays h (frees s a p) (sym (emptied-keeps (λ q. q .collector) (λ l q. refl) s a 0 (s .k) p)) (sym (emptied-keeps (λ q. q .history) (λ l q. refl) s a 0 (s .k) p))
       (subst (λ (n : ℕ). Core s (frees s a p) (unclearedIn n here (p .history)) (uncountedIn n here (p .history))) (sym e) c)
 
   reclaims-sound : p .collector .phase ≡ 6 → Sound s (reclaims s p .pool)
