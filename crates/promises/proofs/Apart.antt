@@ -135,11 +135,11 @@ module _ {s : Sizes} {p : Pool} (w q f r : ℕ) (there : LinkThere s p w q f) wh
   -- registers stay, and one link takes what register r holds
   stored-registers : after-store .workers .registers ≡ p .workers .registers
   unfolding added
-  stored-registers = stored-has s p w q f r (λ t. t .workers .registers ≡ p .workers .registers) (λ marks t h. h) refl refl
+  stored-registers = stored-has s p w q f r (λ t. t .workers .registers ≡ p .workers .registers) (λ marks t h. h) (λ off. refl) (λ on. refl)
 
   stored-values : after-store .links .value ≡ set (p .links .value) (link .0) taken
   unfolding added
-  stored-values = stored-has s p w q f r (λ t. t .links .value ≡ set (p .links .value) (link .0) taken) (λ marks t h. h) refl refl
+  stored-values = stored-has s p w q f r (λ t. t .links .value ≡ set (p .links .value) (link .0) taken) (λ marks t h. h) (λ off. refl) (λ on. refl)
 
   -- a link that v follows after the store: it holds what it held, or it is the one stored to, of a record that w reaches, so that v is w
   follow : Apart s p → (v : ℕ) (a b : RecordNumber) (g : ℕ) → Reaches s p v a → g < s .k

@@ -8,6 +8,7 @@
 --     Hold          it holds at each place of a run
 --     Reached       what a worker can reach is never freed
 --     Apart         no record is in the reach of two workers
+--     LastSeen      the counts are those of the values last seen
 --     Promises      the statements
 pub mod Invariant
 pub mod Grow
@@ -20,4 +21,5 @@ pub mod Work
 pub mod Hold
 pub mod Reached
 pub mod Apart
+pub mod LastSeen
 pub mod Promises

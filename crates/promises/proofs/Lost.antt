@@ -15,8 +15,8 @@ use mathlib.Core.List.{List, []}
 use native.Mathlib.Omega.{arith}
 use native.Mathlib.Nat.{eq-zero-or-pos}
 use borrow.Author.Tests.{eq-eqb}
-use lib.ListN.{length, getD, length-set, List·getD-eq-default}
-use lib.Seq.{getD-set-same, getD-set-other}
+use lib.ListN.{length, getD, List·getD-eq-default}
+use lib.Seq.{getD-set-other}
 use Rattle.rules.specs.declared.Sizes.{Sizes}
 use Rattle.rules.specs.declared.RecordNumber.{RecordNumber}
 use Rattle.rules.specs.declared.LinkNumber.{LinkNumber}
@@ -253,42 +253,27 @@ module _ {s : Sizes} {p : Pool} (y : RecordNumber) (some : 1 ≤ y .0) (low : y 
 
 -- ---- all of its links are emptied
 
-pub record Emptied (s : Sizes) (y : RecordNumber) (i : ℕ) (from : ℕ) (p : Pool) : Type 0 where
+pub record Emptied (s : Sizes) (y : RecordNumber) (i : ℕ) (p : Pool) : Type 0 where
   pub named : Named s p
   pub phased : Phased s p 6 i
   pub lost : Lost s p y
-  pub none-left : (g : ℕ) → g < from → valueAt p (linkNumber s y g) ≡ none
-  pub values : length (p .links .value) ≡ links s
-
-one-more : (s : Sizes) (y : RecordNumber) (i f : ℕ) (p : Pool) → 1 ≤ y .0 → y .0 ≤ s .n → f < s .k → Emptied s y i f p → Emptied s y i (suc f) (emptied (linkNumber s y f) p)
-unfolding emptied falls
-one-more s y i f p some low k x =
-    record {
-      named = named-emptied y some low f k (x .lost) (x .named);
-      phased = phased-emptied y some low f k (x .lost) (x .phased);
-      lost = lost-emptied y some low f k (x .lost);
-      none-left =
-          λ g h.
-          ⊎-elim
-          (λ e.
-          ap (λ (j : ℕ). valueAt (emptied (linkNumber s y f) p) (linkNumber s y j)) (e .0)
-          ∙ getD-set-same (p .links .value) (linkNumber s y f .0) none none (omega (arith, x .values, link-inside s y f some low k)))
-          (λ e. value-emptied y some low f k (x .lost) (λ b. b ≡ none) (linkNumber s y g) refl (x .none-left g (let n = e .0 in omega arith)))
-          (eqb-cases g f);
-      values = length-set (p .links .value) (linkNumber s y f .0) none ∙ x .values;
-    }
 
 pub emptied-through : (s : Sizes) (y : RecordNumber) (i f left : ℕ) (p : Pool) → 1 ≤ y .0 → y .0 ≤ s .n → f + left ≤ s .k
-    → Emptied s y i f p → Emptied s y i (f + left) (emptiedFrom s y f left p)
+    → Emptied s y i p → Emptied s y i (emptiedFrom s y f left p)
 unfolding emptiedFrom
-emptied-through s y i f zero p some low k x = subst (λ (n : ℕ). Emptied s y i n p) (let e : f ≡ f + zero = omega arith in e) x
+emptied-through s y i f zero p some low k x = x
 emptied-through s y i f (suc left) p some low k x =
-    subst (λ (n : ℕ). Emptied s y i n (emptiedFrom s y (suc f) left (emptied (linkNumber s y f) p))) (let e : suc f + left ≡ f + suc left = omega arith in e)
-    (emptied-through s y i (suc f) left (emptied (linkNumber s y f) p) some low (omega arith) (one-more s y i f p some low (omega arith) x))
+    let inside : f < s .k = omega arith in
+    emptied-through s y i (suc f) left (emptied (linkNumber s y f) p) some low (omega arith)
+    (record {
+      named = named-emptied y some low f inside (x .lost) (x .named);
+      phased = phased-emptied y some low f inside (x .lost) (x .phased);
+      lost = lost-emptied y some low f inside (x .lost);
+    })
 
 -- ---- it is free
 
-module _ (s : Sizes) (p : Pool) (y : RecordNumber) (some : 1 ≤ y .0) (low-used : y .0 ≤ length (p .records .used)) (low-candidate : y .0 ≤ length (p .records .candidate)) {i : ℕ} (x : Emptied s y i (s .k) p) where
+module _ (s : Sizes) (p : Pool) (y : RecordNumber) (some : 1 ≤ y .0) (low-used : y .0 ≤ length (p .records .used)) (low-candidate : y .0 ≤ length (p .records .candidate)) {i : ℕ} (x : Emptied s y i p) (none-left : (f : ℕ) → f < s .k → valueAt p (linkNumber s y f) ≡ none) where
   abbrev freed : Pool
   freed = withCandidate (withRecord (p .records .candidate) (y .0) false) (withUsed (withRecord (p .records .used) (y .0) false) p)
 
@@ -321,7 +306,7 @@ module _ (s : Sizes) (p : Pool) (y : RecordNumber) (some : 1 ≤ y .0) (low-used
         free-maker = λ a. by-free (λ b. makerAt p b ≡ 0) (x .lost .unkept .maker) a (λ n h. x .named .free-maker a h);
         free-links =
             λ a some-a free f k.
-            by-free (λ b. valueAt p (linkNumber s b f) ≡ none) (x .none-left f k) a (λ n h. x .named .free-links a some-a h f k) free;
+            by-free (λ b. valueAt p (linkNumber s b f) ≡ none) (none-left f k) a (λ n h. x .named .free-links a some-a h f k) free;
       }
 
   pub phased-freed : Phased s freed 6 i

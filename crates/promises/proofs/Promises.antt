@@ -1,8 +1,9 @@
 -- What the pool promises, over any events from a fresh pool, refused ones among them. Nothing is assumed of the events. The words are those of specs/ and of
 -- `rules`.
 --     reached-is-never-freed     what a worker can reach is never freed
+--     counts-at-a-close          at each close the counts are those of the values the collector last saw
 -- Assumes nothing.
-use Prim.Native.Nat.{ℕ}
+use Prim.Native.Nat.{ℕ, _≤_}
 use mathlib.Core.Path.{_≡_}
 use mathlib.Core.Bool.{true}
 use mathlib.Core.List.{List}
@@ -10,12 +11,16 @@ use Rattle.rules.specs.declared.Sizes.{Sizes}
 use Rattle.rules.specs.declared.RecordNumber.{RecordNumber}
 use Rattle.rules.specs.declared.Event.{Event}
 use Rattle.rules.specs.declared.Answer.the-variants.{Freed}
-use Rattle.rules.specs.Size.{inRange}
-use Rattle.rules.specs.Pool.{fresh}
+use Rattle.rules.specs.Size.{inRange, links}
+use Rattle.rules.specs.Pool.{none, countAt, fresh}
 use Rattle.rules.specs.Outcome.{outcome, after}
+use Rattle.rules.specs.Sound.{tally}
 use Rattle.promises.specs.Reach.{Reaches}
-use Rattle.promises.proofs.Hold.{run-holds}
+use Rattle.promises.specs.Cycle.{Closes}
+use Rattle.promises.specs.Seen.{seenAfter, lastSeen}
+use Rattle.promises.proofs.Hold.{run-holds, reached-event}
 use Rattle.promises.proofs.Reached.{freed-unreached}
+use Rattle.promises.proofs.LastSeen.{event-sees, fresh-run-saw, counts-of-seen}
 
 -- after any events, no event frees a record that a worker reaches
 pub reached-is-never-freed : (s : Sizes) → inRange s ≡ true → (events : List Event) (e : Event) (a : RecordNumber)
@@ -23,3 +28,15 @@ pub reached-is-never-freed : (s : Sizes) → inRange s ≡ true → (events : Li
     → (w : ℕ) → Reaches s (after s (fresh s) events) w a → ⊥
 reached-is-never-freed s r events e a =
     freed-unreached (run-holds s r events .sound) (run-holds s r events .state) e a
+
+-- after any events, where an event closes a cycle each record's count is the number of links of which the collector last saw that they hold it
+pub counts-at-a-close : (s : Sizes) → inRange s ≡ true → (events : List Event) (e : Event) → Closes s (after s (fresh s) events) e
+    → (a : RecordNumber) → 1 ≤ a .0 → a .0 ≤ s .n
+    → countAt (outcome s (after s (fresh s) events) e .pool) a
+    ≡ tally (seenAfter s (after s (fresh s) events) e (lastSeen s (fresh s) (λ l. none) events)) (links s) a
+unfolding seenAfter
+counts-at-a-close s r events e c =
+    let x = run-holds s r events in
+    counts-of-seen s (outcome s (after s (fresh s) events) e .pool) (reached-event s r (after s (fresh s) events) x e .sound) (c .after)
+    (seenAfter s (after s (fresh s) events) e (lastSeen s (fresh s) (λ l. none) events))
+    (event-sees (x .sound) (lastSeen s (fresh s) (λ l. none) events) (fresh-run-saw s r events) e)

@@ -5,7 +5,7 @@
 --     makes-kept .. stores-kept     the worker events
 --     event-kept, run-kept          every event, and a run
 -- Assumes nothing.
-use Prim.Native.Nat.{ℕ, zero, suc, _+_, _≤_, _<_, zero-le}
+use Prim.Native.Nat.{ℕ, zero, suc, _≤_, _<_, zero-le}
 use mathlib.Core.Path.{_≡_, refl, sym, _∙_, subst}
 use mathlib.Core.Logic.{_⊎_, inl, inr}
 use mathlib.Core.Bool.{Bool, true, false, cond}
@@ -18,13 +18,13 @@ use Rattle.rules.specs.declared.Sizes.{Sizes}
 use Rattle.rules.specs.declared.RecordNumber.{RecordNumber}
 use Rattle.rules.specs.declared.LinkNumber.{LinkNumber}
 use Rattle.rules.specs.declared.Collector.{Collector}
-use Rattle.rules.specs.Size.{links}
-use Rattle.rules.specs.Pool.{Entry, Pool, snoopsAt, registersAt, logAt, withHeld, withSnoop, withLog, withHistory, withChanged}
+use Rattle.rules.specs.Size.{links, linkNumber}
+use Rattle.rules.specs.Pool.{Entry, Pool, none, valueAt, snoopsAt, registersAt, logAt, withHeld, withSnoop, withLog, withHistory, withChanged}
 use Rattle.rules.specs.Collect.{phaseAfter, lastOf, onward, opens, snoops, madeBy, takes, noEntry, entryHere, clears, heldBy, scans, falls, rises, counted, counts, passes, reclaimed, emptied, emptiedFrom, frees, closes, reclaim, reclaims, collects}
 use Rattle.rules.specs.Sound.{Each, Sound}
-use Rattle.laws.proofs.Number.{record-same}
+use Rattle.laws.proofs.Number.{record-same, link-inside}
 use Rattle.laws.proofs.Lists.{Each-at}
-use Rattle.laws.proofs.Change.{emptied-keeps}
+use Rattle.laws.proofs.Change.{emptied-keeps, emptied-none}
 use Rattle.laws.proofs.Search.{Passed, passed, reclaimed-passes}
 use Rattle.laws.proofs.Phases.{by-phase, moved, onward-cases, after-snooping, after-taking, after-clearing, after-scanning, after-counting}
 use Rattle.soundness.proofs.Core.{Core, core-in, position-in, empty-in}
@@ -223,25 +223,21 @@ module _ {s : Sizes} {p : Pool} (sound : Sound s p) (state : State s p) where
     unfolding frees emptied falls
     frees-kept y some low pass =
         record {
-          named = named-freed s q y some low-used low-candidate all;
-          phased = subst (λ (c : Collector). Phased s (frees s y p) (c .phase) (c .position)) (sym (emptied-keeps (λ r. r .collector) (λ l r. refl) s y 0 (s .k) p)) (subst (λ (k : ℕ). Phased s (frees s y p) k here) (sym e) (phased-freed s q y some low-used low-candidate all));
+          named = named-freed s q y some low-used low-candidate all none-left;
+          phased = subst (λ (c : Collector). Phased s (frees s y p) (c .phase) (c .position)) (sym (emptied-keeps (λ r. r .collector) (λ l r. refl) s y 0 (s .k) p)) (subst (λ (k : ℕ). Phased s (frees s y p) k here) (sym e) (phased-freed s q y some low-used low-candidate all none-left));
         }
       where
         q : Pool
         q = emptiedFrom s y 0 (s .k) p
 
-        start : Emptied s y here 0 p
-        start =
-            record {
-              named = state .named;
-              phased = phased-in 6 e;
-              lost = taken-lost y some low pass;
-              none-left = λ g h. absurd (omega arith);
-              values = sound .shaped .links .value;
-            }
+        all : Emptied s y here q
+        all =
+            emptied-through s y here 0 (s .k) p some low (omega arith)
+            (record { named = state .named; phased = phased-in 6 e; lost = taken-lost y some low pass })
 
-        all : Emptied s y here (s .k) q
-        all = subst (λ (m : ℕ). Emptied s y here m q) (let z : 0 + s .k ≡ s .k = omega arith in z) (emptied-through s y here 0 (s .k) p some low (omega arith) start)
+        none-left : (f : ℕ) → f < s .k → valueAt q (linkNumber s y f) ≡ none
+        none-left f k =
+            emptied-none s y 0 (s .k) p (λ g a b. omega (arith, link-inside s y g some low (omega arith), sound .shaped .links .value)) f zero-le (omega arith)
 
         after : Core s q [] []
         after = core-emptied-from s y 0 (s .k) p core-6 some low (omega arith) (λ g i j. pass .unchanged g (omega arith))

@@ -40,7 +40,7 @@ module _ (s : Sizes) where
   unfolding allLogs fresh
   no-logs = no-entries (s .w)
 
-  unmarked : (l : LinkNumber) → changedAt (fresh s) l ≡ false
+  pub unmarked : (l : LinkNumber) → changedAt (fresh s) l ≡ false
   unfolding fresh
   unmarked l = getD-same (links s) false l.0
 

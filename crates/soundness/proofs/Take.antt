@@ -1,6 +1,6 @@
 -- Phase 2 keeps the core: entries move from a log to the history, and the value that their links count for is the entry's old value before and after.
---     core-taken     a worker's log is added to the history and emptied
---     core-made      every record of which it is maker becomes a candidate with maker 0
+--     counts-taken, core-taken     a worker's log is added to the history and emptied
+--     core-made                    every record of which it is maker becomes a candidate with maker 0
 -- Assumes nothing.
 use Prim.Native.Nat.{ℕ, _+_, _≤_, _<_, zero-le}
 use mathlib.Core.Path.{_≡_, sym, ap, _∙_}
@@ -62,6 +62,10 @@ module _ {s : Sizes} {p : Pool} (c : Core s p (p .history) (p .history)) (w : �
           view-marked p m (bit-on (changedAt p m) (omega (arith, c .marks m k, times-log m)))
           ∙ lookUp-first m logs w there-is (viewValue taken m) (times-most c m k) h
 
+  -- a link counts for what it counted for
+  pub counts-taken : (m : LinkNumber) → m .0 < links s → oldIn m (p .history) (viewValue p m) ≡ oldIn m history (viewValue taken m)
+  counts-taken m k = oldIn-else m (p .history) (λ z. view-taken m k) ∙ sym (oldIn-append m (p .history) (logAt p w) (viewValue taken m))
+
   pub core-taken : Core s taken history history
   unfolding allLogs
   core-taken =
@@ -87,10 +91,7 @@ module _ {s : Sizes} {p : Pool} (c : Core s p (p .history) (p .history)) (w : �
             λ m k.
             omega (arith, times-append m (p .history) (logAt p w), times-log m, c .marks m k, bit-most (changedAt p m));
         marks = λ m k. times-taken m ∙ c .marks m k;
-        counts =
-            λ a h k.
-            c .counts a h k ∙ tally-same _ _ (links s) a (λ m q.
-            oldIn-else m (p .history) (λ z. view-taken m q) ∙ sym (oldIn-append m (p .history) (logAt p w) (viewValue taken m)));
+        counts = λ a h k. c .counts a h k ∙ tally-same _ _ (links s) a counts-taken;
       }
 
 module _ {s : Sizes} {p : Pool} {clear count : List Entry} (c : Core s p clear count) (w : ℕ) where
