@@ -8,7 +8,6 @@ use Prim.Native.Nat.{ℕ, zero, suc, _+_, _≤_, _<_}
 use mathlib.Core.Path.{_≡_, refl, sym, ap, _∙_}
 use mathlib.Core.Logic.{_⊎_, inl, inr, ⊎-elim}
 use mathlib.Core.Bool.{Bool, true, false, cond, not}
-use mathlib.Core.List.{List}
 use native.Mathlib.Omega.{arith}
 use native.Mathlib.Nat.{eq-or-lt-of-le}
 use lib.ListN.{length, length-set}
@@ -41,23 +40,20 @@ module _ (s : Sizes) (p : Pool) (w q f r : ℕ) where
   new = registerAt p w r
 
   pub stored-has : (P : Pool → Type 0)
-      → ((marks : List Bool) (t : Pool) → P t → P (withHeld marks t))
+      → (snoopsAt p w ≡ true → (t : Pool) → P t → P (withHeld (withRecord (p .records .held) (new .0) true) t))
       → (changedAt p link ≡ false → P (withValue link new (added w link p)))
       → (changedAt p link ≡ true → P (withValue link new p))
       → P (stores s w q f r p .pool)
-  unfolding stores snooped logged
-  stored-has P held log plain = by-snoop (snoopsAt (withValue link new (logged w link p)) w) (by-mark (changedAt p link) refl)
+  unfolding stores snooped logged added
+  stored-has P held log plain = by-mark (changedAt p link) refl
     where
-      by-mark : (b : Bool) → changedAt p link ≡ b → P (withValue link new (cond (not b) (added w link p) p))
-      by-mark true on = plain on
-      by-mark false off = log off
+      by-snoop : (t : Pool) → P t → (b : Bool) → snoopsAt p w ≡ b → P (cond b (withHeld (withRecord (p .records .held) (new .0) true) t) t)
+      by-snoop t h true on = held on t h
+      by-snoop t h false off = h
 
-      t : Pool
-      t = withValue link new (logged w link p)
-
-      by-snoop : (b : Bool) → P t → P (cond b (withHeld (withRecord (t .records .held) (new .0) true) t) t)
-      by-snoop true h = held (withRecord (t .records .held) (new .0) true) t h
-      by-snoop false h = h
+      by-mark : (b : Bool) → changedAt p link ≡ b → P (snooped w new (withValue link new (cond (not b) (added w link p) p)))
+      by-mark true on = by-snoop (withValue link new p) (plain on) (snoopsAt p w) refl
+      by-mark false off = by-snoop (withValue link new (added w link p)) (log off) (snoopsAt p w) refl
 
 -- ---- emptying the links of a record
 

@@ -2,6 +2,7 @@
 --     times-append, oldIn-append      of two lists of entries, one after the other
 --     oldIn-absent, oldIn-present, oldIn-else     where no entry is for the link, and where one is
 --     times-one, times-none, times-cons, oldIn-here, oldIn-there     the first entry is for the link, or for another
+--     times-foreign                   a link that no entry is for
 --     times-each                      each entry stands among the entries
 --     oldIn-keeps, Each-link          what holds of every old value, and of the link of every entry
 --     times-from                      the entries of a list from a place on
@@ -99,6 +100,12 @@ unfolding times
 Each-link P l [] h k = absurd (omega arith)
 Each-link P l (e ∷ xs) h k =
     ⊎-elim (λ c. subst P (link-same (e .link) l (c .0)) (h .0)) (λ c. Each-link P l xs (h .1) (omega (arith, ap bit (c .1)))) (eqb-cases (e .link .0) l.0)
+
+-- a link that no entry is for
+pub times-foreign : (l : LinkNumber) (xs : List Entry) → Each (λ e. e .link .0 ≡ l .0 → ⊥) xs → times l xs ≡ 0
+unfolding times
+times-foreign l [] h = refl
+times-foreign l (e ∷ xs) h = omega (arith, ap bit (ne-eqb (e .link .0) l.0 (h .0)), times-foreign l xs (h .1))
 
 -- each entry stands among the entries
 pub times-each : (before xs : List Entry) → Each (λ e. 0 < times (e .link) (before ++ xs)) xs

@@ -3,7 +3,7 @@
 --     length-flatten                          one of them is no longer than all joined
 --     Each-append, Each-left, Each-right, Each-at, Each-all, Each-flatten, Each-flatten-set, Each-map, Each-map₂     what holds of each element
 --     set-cases                               a table of which one place is written
---     ofRecord-same, ofRecord-other, length-withRecord     a table of the records, with another thing for one record
+--     ofRecord-same, ofRecord-other, withRecord-cases, length-withRecord     a table of the records, with another thing for one record
 --     length-zipWith, getD-zipWith            a table made of two
 --     set-keeps, set-keeps-below, map-keeps, withRecord-keeps, map-ofRecord-keeps     what holds at every place of a table
 -- Assumes nothing.
@@ -109,6 +109,13 @@ module _ {A : Type 0} where
   ofRecord-other table zero j x d h = refl
   ofRecord-other table (suc i) zero x d h = refl
   ofRecord-other table (suc i) (suc j) x d h = getD-set-other table i j x d (λ e. h (ap suc (sym e)))
+
+  -- where one record's thing is written, every record has what it had, or is the one written
+  pub withRecord-cases : (table : List A) (i : ℕ) (x : A) (j : ℕ) (d : A)
+      → (ofRecord (withRecord table i x) j d ≡ ofRecord table j d) ⊎ ((j ≡ i) × (ofRecord (withRecord table i x) j d ≡ x))
+  withRecord-cases table zero x j d = inl refl
+  withRecord-cases table (suc i) x zero d = inl refl
+  withRecord-cases table (suc i) x (suc j) d = ⊎-elim inl (λ e. inr (ap suc (e .0), e .1)) (set-cases table i x j d)
 
   pub length-withRecord : (table : List A) (i : ℕ) (x : A) → length (withRecord table i x) ≡ length table
   length-withRecord table zero x = refl

@@ -1,27 +1,37 @@
 -- What the collector's steps do to the makers, candidate marks and held marks of the records.
---     maker-some                       a record that has a maker is not none
---     made-other, made-own, made-candidate     phase 2: the records of which a worker is maker, and the others
+--     on-some, on-low, maker-some      a record that has a mark or a maker is a record
+--     made-other, made-own, made-candidate, made-candidate-own     phase 2: the records of which a worker is maker, and the others
 --     on-grows                         a mark goes on: the others stay
---     heldBy-grows, heldBy-each        phase 4: held marks stay, and each record of the registers is held
---     falls-other                      phases 5 and 6: a count that falls makes no other record a candidate
---     closes-candidate                 the close makes no record a candidate
+--     heldBy-grows, heldBy-other, heldBy-each     phase 4: held marks stay, and each record of the registers is held
+--     falls-other, falls-candidate, falls-own     phases 5 and 6: a count that falls makes its record a candidate at 0, and no other
+--     closes-held, closes-stays, closes-candidate     the close
 -- Assumes nothing.
 use Prim.Native.Nat.{ℕ, zero, suc, _+_, _-_, _≤_}
 use mathlib.Core.Path.{_≡_, refl, sym, ap, _∙_}
 use mathlib.Core.Logic.{⊎-elim}
-use mathlib.Core.Bool.{Bool, true, false, cond, _&&_, _||_}
+use mathlib.Core.Bool.{Bool, true, false, cond, _&&_, _||_, true≢false}
 use mathlib.Core.List.{List, [], _∷_, map, zipWith}
 use native.Mathlib.Omega.{arith}
 use native.Mathlib.Nat.{not-suc-le-zero}
 use borrow.Author.Tests.{eq-eqb, ne-eqb}
 use lib.Dec.{eqb}
-use lib.ListN.{length, getD, List·getD-map}
+use lib.ListN.{length, getD, List·getD-map, List·getD-eq-default}
 use Rattle.rules.specs.declared.RecordNumber.{RecordNumber}
-use Rattle.rules.specs.Pool.{Pool, none, ofRecord, withRecord, countAt, candidateAt, makerAt}
+use Rattle.rules.specs.Pool.{Pool, none, ofRecord, withRecord, countAt, heldAt, candidateAt, makerAt}
 use Rattle.rules.specs.Collect.{madeBy, heldBy, falls, closes}
+use Rattle.laws.proofs.Tests.{below-or-not}
 use Rattle.laws.proofs.Lists.{set-cases, ofRecord-same, ofRecord-other, length-withRecord, getD-zipWith}
 
--- ---- makers
+-- ---- none has nothing
+
+pub on-some : (marks : List Bool) (i : ℕ) → ofRecord marks i false ≡ true → 1 ≤ i
+on-some marks zero e = absurd (true≢false (sym e))
+on-some marks (suc i) e = omega arith
+
+pub on-low : (marks : List Bool) (i : ℕ) → ofRecord marks i false ≡ true → i ≤ length marks
+on-low marks zero e = omega arith
+on-low marks (suc i) e =
+    ⊎-elim (λ h. h) (λ (h : length marks ≤ i). absurd (true≢false (sym e ∙ List·getD-eq-default marks false h))) (below-or-not i (length marks))
 
 -- none has no maker
 pub maker-some : (p : Pool) (a : RecordNumber) (w : ℕ) → makerAt p a ≡ suc w → 1 ≤ a .0
@@ -75,6 +85,10 @@ module _ (w : ℕ) (p : Pool) where
       → candidateAt (madeBy w p) a ≡ candidateAt p a
   made-candidate h a n = candidate-after h a ∙ ap (λ b. b || candidateAt p a) (ne-eqb (makerAt p a) (w + 1) n)
 
+  -- the records of which w is maker become candidates
+  pub made-candidate-own : length (p .records .maker) ≡ length (p .records .candidate) → (a : RecordNumber) → makerAt p a ≡ w + 1 → candidateAt (madeBy w p) a ≡ true
+  made-candidate-own h a e = candidate-after h a ∙ ap (λ b. b || candidateAt p a) (eq-eqb (makerAt p a) (w + 1) e)
+
 -- ---- phase 4
 
 pub on-grows : (marks : List Bool) (i j : ℕ) → ofRecord marks j false ≡ true → ofRecord (withRecord marks i true) j false ≡ true
@@ -86,6 +100,13 @@ pub heldBy-grows : (registers : List RecordNumber) (marks : List Bool) (j : ℕ)
 unfolding heldBy
 heldBy-grows [] marks j h = h
 heldBy-grows (a ∷ registers) marks j h = heldBy-grows registers (withRecord marks (a .0) true) j (on-grows marks (a .0) j h)
+
+-- a record that is in no register stays as it was
+pub heldBy-other : (registers : List RecordNumber) (marks : List Bool) (j : ℕ) → ((r : ℕ) → getD registers r none .0 ≡ j → ⊥) → ofRecord (heldBy registers marks) j false ≡ ofRecord marks j false
+unfolding heldBy
+heldBy-other [] marks j n = refl
+heldBy-other (a ∷ registers) marks j n =
+    heldBy-other registers (withRecord marks (a .0) true) j (λ r. n (suc r)) ∙ ofRecord-other marks (a .0) j true false (n zero)
 
 pub heldBy-each : (registers : List RecordNumber) (marks : List Bool) (r : ℕ) → 1 ≤ getD registers r none .0 → getD registers r none .0 ≤ length marks
     → ofRecord (heldBy registers marks) (getD registers r none .0) false ≡ true
@@ -105,6 +126,48 @@ falls-other a b p n = by-count (eqb (countAt p a - 1) 0)
     by-count : (x : Bool) → ofRecord (cond x (withRecord (p .records .candidate) (a .0) true) (p .records .candidate)) (b .0) false ≡ candidateAt p b
     by-count true = ofRecord-other (p .records .candidate) a.0 b.0 true false n
     by-count false = refl
+
+-- and it makes the record a candidate whose count comes to 0
+pub falls-candidate : (a b : RecordNumber) (p : Pool) → candidateAt p b ≡ true → candidateAt (falls a p) b ≡ true
+unfolding falls
+falls-candidate a b p h = by-count (eqb (countAt p a - 1) 0)
+  where
+    by-count : (x : Bool) → ofRecord (cond x (withRecord (p .records .candidate) (a .0) true) (p .records .candidate)) (b .0) false ≡ true
+    by-count true = on-grows (p .records .candidate) a.0 b.0 h
+    by-count false = h
+
+pub falls-own : (a : RecordNumber) (p : Pool) → 1 ≤ a .0 → a .0 ≤ length (p .records .candidate) → countAt p a - 1 ≡ 0 → candidateAt (falls a p) a ≡ true
+unfolding falls
+falls-own a p some low e =
+    ap (λ x. ofRecord (cond x (withRecord (p .records .candidate) (a .0) true) (p .records .candidate)) (a .0) false) (eq-eqb (countAt p a - 1) 0 e)
+    ∙ ofRecord-same (p .records .candidate) a.0 true false some low
+
+-- ---- the close
+
+-- all held marks are off
+pub closes-held : (p : Pool) (a : RecordNumber) → heldAt (closes p) a ≡ false
+unfolding closes
+closes-held p a = at a.0 (p .records .held)
+  where
+    off : (marks : List Bool) (i : ℕ) → getD (map (λ h. false) marks) i false ≡ false
+    off [] i = refl
+    off (h ∷ marks) zero = refl
+    off (h ∷ marks) (suc i) = off marks i
+
+    at : (i : ℕ) (marks : List Bool) → ofRecord (map (λ h. false) marks) i false ≡ false
+    at zero marks = refl
+    at (suc i) marks = off marks i
+
+-- a candidate whose count is 0 stays one
+pub closes-stays : (p : Pool) → length (p .records .candidate) ≡ length (p .records .count) → (a : RecordNumber) → candidateAt p a ≡ true → countAt p a ≡ 0 → candidateAt (closes p) a ≡ true
+unfolding closes
+closes-stays p h a on z = at a.0 on z
+  where
+    at : (i : ℕ) → ofRecord (p .records .candidate) i false ≡ true → ofRecord (p .records .count) i 0 ≡ 0 → ofRecord (zipWith (λ c n. c && eqb n 0) (p .records .candidate) (p .records .count)) i false ≡ true
+    at zero e z = absurd (true≢false (sym e))
+    at (suc i) e z =
+        getD-zipWith (λ c n. c && eqb n 0) (p .records .candidate) (p .records .count) i false 0 h
+        ∙ (λ j. e j && eq-eqb (getD (p .records .count) i 0) 0 z j)
 
 pub closes-candidate : (p : Pool) → length (p .records .candidate) ≡ length (p .records .count) → (a : RecordNumber) → candidateAt p a ≡ false → candidateAt (closes p) a ≡ false
 unfolding closes

@@ -2,7 +2,7 @@
 --     by-phase           the collect event is the step of the phase
 --     moved              a pool with the collector moved to a phase and a position
 --     onward-cases       a step moves to the next position, or after the last to the next phase
---     after-snooping .. after-counting     the phase after each
+--     phase-goes-up, after-snooping .. after-counting     the phase after each
 -- Assumes nothing.
 use Prim.Native.Nat.{ℕ, zero, suc, _≤_, _<_}
 use mathlib.Core.Path.{_≡_, refl, sym, ap, _∙_, subst}
@@ -15,7 +15,7 @@ use Rattle.rules.specs.declared.Sizes.{Sizes}
 use Rattle.rules.specs.declared.Collector.{Collector}
 use Rattle.rules.specs.Pool.{Entry, Pool, withCollector}
 use Rattle.rules.specs.Reply.{Outcome}
-use Rattle.rules.specs.Collect.{phaseAfter, lastOf, onward, stepped, opens, snoops, takes, clears, scans, counts, reclaims, phases, collects}
+use Rattle.rules.specs.Collect.{skipped, phaseAfter, lastOf, onward, stepped, opens, snoops, takes, clears, scans, counts, reclaims, phases, collects}
 
 -- ---- the list of phases
 
@@ -68,6 +68,15 @@ onward-cases P q n k next e f stay leave = by-place (lastOf n q) refl
     by-place true h =
         subst (λ (m : ℕ). P (moved m 0 q)) (sym (ap (λ (m : ℕ). phaseAfter m (q .history)) e ∙ f)) (leave (leb-true n (suc (c .position)) h))
     by-place false h = subst (λ (m : ℕ). P (moved m (suc (c .position)) q)) (sym e) (stay (leb-false n (suc (c .position)) h))
+
+-- the phase goes up
+pub phase-goes-up : (phase : ℕ) (history : List Entry) → phase < phaseAfter phase history
+unfolding phaseAfter
+phase-goes-up phase history = by-skip (skipped (suc phase) history)
+  where
+    by-skip : (b : Bool) → phase < cond b (suc (suc phase)) (suc phase)
+    by-skip true = omega arith
+    by-skip false = omega arith
 
 -- "After the last worker, phase 2."
 pub after-snooping : (history : List Entry) → phaseAfter 1 history ≡ 2

@@ -1,5 +1,5 @@
 -- What phase 6 takes next.
---     Passed, passed        what is known of a record that passes
+--     Passed, passed, passes-all     what is known of a record that passes, and makes it pass
 --     reclaimed-passes      the search finds none, or a record that passes
 --     reclaimed-lowest      "the lowest": no record below it passes
 --     reclaimed-none        it finds none only where no record passes
@@ -10,14 +10,14 @@ use mathlib.Core.Logic.{_⊎_, inl, inr, ⊎-elim}
 use mathlib.Core.Bool.{Bool, true, false, cond, not, _&&_}
 use native.Mathlib.Omega.{arith}
 use native.Mathlib.Nat.{eq-or-lt-of-le}
-use borrow.Author.Tests.{not-true, eqb-true}
+use borrow.Author.Tests.{not-true, eqb-true, eq-eqb}
 use lib.Dec.{eqb}
 use Rattle.rules.specs.declared.Sizes.{Sizes}
 use Rattle.rules.specs.declared.RecordNumber.{RecordNumber}
 use Rattle.rules.specs.Size.{linkNumber}
 use Rattle.rules.specs.Pool.{Pool, usedAt, countAt, heldAt, candidateAt, changedAt}
 use Rattle.rules.specs.Collect.{unchangedFrom, passes, firstPassing, reclaimed}
-use Rattle.laws.proofs.Tests.{and-left, and-right}
+use Rattle.laws.proofs.Tests.{and-left, and-right, and-both}
 
 -- ---- a record that passes
 
@@ -60,6 +60,21 @@ passed s p a h =
       held = not-true (heldAt p a) (and-right (used && candidate && count) held to-held);
       unchanged = λ f k. unchanged-at s p a 0 (s .k) (and-right (used && candidate && count && held) marks h) f zero-le (omega arith);
     }
+
+unchanged-all : (s : Sizes) (p : Pool) (a : RecordNumber) (f left : ℕ) → ((g : ℕ) → f ≤ g → g < f + left → changedAt p (linkNumber s a g) ≡ false)
+    → unchangedFrom s p a f left ≡ true
+unfolding unchangedFrom
+unchanged-all s p a f zero h = refl
+unchanged-all s p a f (suc left) h =
+    and-both (not (changedAt p (linkNumber s a f))) (unchangedFrom s p a (suc f) left) (ap not (h f (omega arith) (omega arith)))
+    (unchanged-all s p a (suc f) left (λ g i j. h g (omega arith) (omega arith)))
+
+pub passes-all : (s : Sizes) (p : Pool) (a : RecordNumber) → Passed s p a → passes s p a ≡ true
+unfolding passes
+passes-all s p a h =
+    and-both _ _
+    (and-both _ _ (and-both _ _ (and-both _ _ (h .used) (h .candidate)) (eq-eqb (countAt p a) 0 (h .count))) (ap not (h .held)))
+    (unchanged-all s p a 0 (s .k) (λ g i j. h .unchanged g (omega arith)))
 
 -- ---- the search
 

@@ -4,6 +4,7 @@
 --     tally-here      a link that is counted counts
 --     tally-most      a tally is at most the number of links
 --     tally-nothing   no link is taken to a record: its tally is 0
+--     tally-found     a tally is not 0: a link is taken to the record
 -- Assumes nothing.
 use Prim.Native.Nat.{ℕ, zero, suc, _+_, _≤_, _<_}
 use mathlib.Core.Path.{_≡_, refl, ap, _∙_}
@@ -16,7 +17,7 @@ use Rattle.rules.specs.declared.LinkNumber.{LinkNumber}
 use Rattle.rules.specs.declared.RecordNumber.{RecordNumber}
 use Rattle.rules.specs.View.{bit}
 use Rattle.rules.specs.Sound.{tally}
-use Rattle.laws.proofs.Tests.{bit-most}
+use Rattle.laws.proofs.Tests.{eqb-cases, bit-most}
 use Rattle.laws.proofs.Number.{link-same}
 
 -- whether a record is the one that is counted for, as a number
@@ -76,3 +77,13 @@ tally-nothing f zero a h = refl
 tally-nothing f (suc m) a h =
     let off : hit (f (record { 0 = m })) a ≡ 0 = ap bit (ne-eqb (f (record { 0 = m }) .0) (a .0) (h (record { 0 = m }))) in
     omega (arith, tally-nothing f m a h)
+
+-- where a tally is not 0, a link is taken to the record
+pub tally-found : (f : LinkNumber → RecordNumber) (m : ℕ) (a : RecordNumber) → 1 ≤ tally f m a → (l : LinkNumber) × (l .0 < m) × (f l .0 ≡ a .0)
+unfolding tally
+tally-found f zero a h = absurd (omega arith)
+tally-found f (suc m) a h =
+    ⊎-elim
+    (λ e. (record { 0 = m }, omega arith, e .0))
+    (λ e. let x = tally-found f m a (omega (arith, ap bit (e .1))) in (x .0, omega (arith, x .1), x .2))
+    (eqb-cases (f (record { 0 = m }) .0) a.0)

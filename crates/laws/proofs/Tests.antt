@@ -1,8 +1,8 @@
 -- Laws on tests and on marks as numbers.
 --     eqb-cases              a test of two numbers, and what it tells
 --     below-or-not           a number is below another, or it is not
---     and-left, and-right    two tests in one
---     bit-most, bit-on       a mark as a number
+--     and-left, and-right, and-both     two tests in one
+--     bit-most, bit-on, bit-off         a mark as a number
 -- Assumes nothing.
 use Prim.Native.Nat.{ℕ, _≤_, _<_}
 use mathlib.Core.Path.{_≡_, refl}
@@ -43,3 +43,11 @@ bit-most false = omega arith
 pub bit-on : (b : Bool) → 0 < bit b → b ≡ true
 bit-on true h = refl
 bit-on false h = absurd (omega arith)
+
+pub bit-off : (b : Bool) → bit b ≡ 0 → b ≡ false
+bit-off true h = absurd (omega arith)
+bit-off false h = refl
+
+pub and-both : (a b : Bool) → a ≡ true → b ≡ true → (a && b) ≡ true
+and-both true b x y = y
+and-both false b x y = x

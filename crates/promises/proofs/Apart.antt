@@ -48,7 +48,7 @@ reaches-some (holds r e some) = some
 reaches-some (leads f x k e some) = some
 
 -- registers stay, and a link keeps its value or becomes none
-reach-shrinks : {s : Sizes} (p q : Pool)
+pub reach-shrinks : {s : Sizes} (p q : Pool)
     → ((v r : ℕ) → registerAt q v r ≡ registerAt p v r)
     → ((l : LinkNumber) → (valueAt q l ≡ valueAt p l) ⊎ (valueAt q l ≡ none))
     → {v : ℕ} {a : RecordNumber} → Reaches s q v a → Reaches s p v a
@@ -62,7 +62,7 @@ reach-shrinks {s} p q registers values (leads {a = a} {b = b} f x k e some) =
 -- ---- a register takes what its worker reaches
 
 module _ {s : Sizes} {p : Pool} (w r : ℕ) (x : RecordNumber) (reached : 1 ≤ x .0 → Reaches s p w x) where
-  back-register : (v : ℕ) (a : RecordNumber) → Reaches s (withRegister w r x p) v a → Reaches s p v a
+  pub back-register : (v : ℕ) (a : RecordNumber) → Reaches s (withRegister w r x p) v a → Reaches s p v a
   back-register v a (holds q e some) =
       ⊎-elim
       (λ same. holds q (sym same ∙ e) some)
@@ -91,7 +91,7 @@ module _ {s : Sizes} {p : Pool} (n : Named s p) where
     free = chosen-free p some
 
     -- a worker reaches what it reached before, and the maker the record made
-    back-made : (v : ℕ) (a : RecordNumber) → Reaches s (makes w r p .pool) v a → Reaches s p v a ⊎ ((v ≡ w) × (new ≡ a))
+    pub back-made : (v : ℕ) (a : RecordNumber) → Reaches s (makes w r p .pool) v a → Reaches s p v a ⊎ ((v ≡ w) × (new ≡ a))
     unfolding makes
     back-made v a (holds q e k) =
         ⊎-elim
@@ -133,13 +133,13 @@ module _ {s : Sizes} {p : Pool} (w q f r : ℕ) (there : LinkThere s p w q f) wh
   after-store = stores s w q f r p .pool
 
   -- registers stay, and one link takes what register r holds
-  stored-registers : after-store .workers .registers ≡ p .workers .registers
+  pub stored-registers : after-store .workers .registers ≡ p .workers .registers
   unfolding added
-  stored-registers = stored-has s p w q f r (λ t. t .workers .registers ≡ p .workers .registers) (λ marks t h. h) (λ off. refl) (λ on. refl)
+  stored-registers = stored-has s p w q f r (λ t. t .workers .registers ≡ p .workers .registers) (λ on t h. h) (λ off. refl) (λ on. refl)
 
-  stored-values : after-store .links .value ≡ set (p .links .value) (link .0) taken
+  pub stored-values : after-store .links .value ≡ set (p .links .value) (link .0) taken
   unfolding added
-  stored-values = stored-has s p w q f r (λ t. t .links .value ≡ set (p .links .value) (link .0) taken) (λ marks t h. h) (λ off. refl) (λ on. refl)
+  stored-values = stored-has s p w q f r (λ t. t .links .value ≡ set (p .links .value) (link .0) taken) (λ on t h. h) (λ off. refl) (λ on. refl)
 
   -- a link that v follows after the store: it holds what it held, or it is the one stored to, of a record that w reaches, so that v is w
   follow : Apart s p → (v : ℕ) (a b : RecordNumber) (g : ℕ) → Reaches s p v a → g < s .k
@@ -158,7 +158,7 @@ module _ {s : Sizes} {p : Pool} (w q f r : ℕ) (there : LinkThere s p w q f) wh
           (subst (Reaches s p v) (record-same a through (link-apart s a through g f (reaches-some old) (there .holds) k (there .link) same)) old)
           (holds q refl (there .holds)))
 
-  back-stored : Apart s p → (v : ℕ) (a : RecordNumber) → Reaches s after-store v a → Reaches s p v a
+  pub back-stored : Apart s p → (v : ℕ) (a : RecordNumber) → Reaches s after-store v a → Reaches s p v a
   back-stored h v a (holds u e some) = holds u (ap (λ rows. getD (getD rows v []) u none) (sym stored-registers) ∙ e) some
   back-stored h v b (leads {a = a} g y k e some) = follow h v a b g (back-stored h v a y) k (sym (ap (λ values. getD values (linkNumber s a g .0) none) stored-values) ∙ e) some
 
@@ -199,7 +199,7 @@ apart-collected {s} {p} sound =
 
 -- ---- a run
 
-apart-event : (s : Sizes) (p : Pool) → Reached s p → (e : Event) → Apart s p → Apart s (outcome s p e .pool)
+pub apart-event : (s : Sizes) (p : Pool) → Reached s p → (e : Event) → Apart s p → Apart s (outcome s p e .pool)
 unfolding outcome does moves drops loads
 apart-event s p x (Make w r) h = decided (Apart s) p h _ _ (λ t. apart-made (x .state .named) w r (can-make s p w r t .1) h)
 apart-event s p x (Move w r q) h = decided (Apart s) p h _ _ (λ t. apart-register w r (registerAt p w q) (λ some. holds q refl some) h)

@@ -102,7 +102,7 @@ module _ {s : Sizes} {p : Pool} (sound : Sound s p) (seen : LinkNumber → Recor
   unfolding viewValue uncleared added
   stored-quiet w q f r worker inside =
       stored-has s p w q f r Quiet
-      (λ marks t h. record { marks = h .marks; same = h .same })
+      (λ on t h. record { marks = h .marks; same = h .same })
       (λ off. record {
         marks = λ l on. ⊎-elim (λ e. e ∙ on) (λ e. e .1) (set-cases (p .links .changed) (linkNumber s (registerAt p w q) f .0) true l.0 false);
         same = λ l h. ap (oldIn l (uncleared p)) (sym (view-after (core sound) (linkNumber s (registerAt p w q) f) (registerAt p w r) (sound .registers w r) inside off w worker l));

@@ -9,6 +9,10 @@
 --     Reached       what a worker can reach is never freed
 --     Apart         no record is in the reach of two workers
 --     LastSeen      the counts are those of the values last seen
+--     Ready         two more facts of every pool of a run
+--     Remain        what was lost at the opening of a cycle, through the cycle
+--     Pigeon, Chain     records that lead back to one another for ever come round
+--     LostFreed     what was lost is freed
 --     Promises      the statements
 pub mod Invariant
 pub mod Grow
@@ -22,4 +26,9 @@ pub mod Hold
 pub mod Reached
 pub mod Apart
 pub mod LastSeen
+pub mod Ready
+pub mod Remain
+pub mod Pigeon
+pub mod Chain
+pub mod LostFreed
 pub mod Promises

@@ -32,7 +32,7 @@ use Rattle.laws.proofs.Entries.{times-each}
 use Rattle.laws.proofs.LookUp.{lookUp-each, view-marked, view-unmarked}
 use Rattle.laws.proofs.Tally.{tally-here}
 use Rattle.laws.proofs.Search.{Passed}
-use Rattle.laws.proofs.Marks.{maker-some, falls-other, closes-candidate}
+use Rattle.laws.proofs.Marks.{on-some, maker-some, falls-other, closes-candidate}
 use Rattle.soundness.proofs.Core.{Core, times-most}
 use Rattle.promises.proofs.Invariant.{Used, Kept, by-held, by-maker, by-mark, by-view, NoneOrKept, Since, Named, Phased}
 use Rattle.promises.proofs.Grow.{kept-grows}
@@ -61,11 +61,7 @@ pub record Lost (s : Sizes) (p : Pool) (y : RecordNumber) : Type 0 where
   pub history : Each (λ e. e .old .0 ≡ y .0 → ⊥) (p .history)
 
 kept-some : {s : Sizes} {p : Pool} {a : RecordNumber} → Kept s p a → 1 ≤ a .0
-kept-some {s} {p} (by-held {a = a} h) = at a.0 h
-  where
-    at : (i : ℕ) → ofRecord (p .records .held) i false ≡ true → 1 ≤ i
-    at zero e = absurd (true≢false (sym e))
-    at (suc i) e = omega arith
+kept-some {s} {p} (by-held {a = a} h) = on-some (p .records .held) a.0 h
 kept-some {s} {p} (by-maker {a = a} h) = maker-some p a (makerAt p a - 1) (omega arith)
 kept-some (by-mark f some k h) = some
 kept-some (by-view f x k e some) = some

@@ -2,24 +2,27 @@
 -- `rules`.
 --     reached-is-never-freed     what a worker can reach is never freed
 --     counts-at-a-close          at each close the counts are those of the values the collector last saw
+--     lost-is-freed              what was lost when a cycle opened, loops aside, is freed in that cycle
 -- Assumes nothing.
 use Prim.Native.Nat.{ℕ, _≤_}
 use mathlib.Core.Path.{_≡_}
 use mathlib.Core.Bool.{true}
-use mathlib.Core.List.{List}
+use mathlib.Core.List.{List, _∷_}
 use Rattle.rules.specs.declared.Sizes.{Sizes}
 use Rattle.rules.specs.declared.RecordNumber.{RecordNumber}
 use Rattle.rules.specs.declared.Event.{Event}
 use Rattle.rules.specs.declared.Answer.the-variants.{Freed}
 use Rattle.rules.specs.Size.{inRange, links}
 use Rattle.rules.specs.Pool.{none, countAt, fresh}
-use Rattle.rules.specs.Outcome.{outcome, after}
+use Rattle.rules.specs.Outcome.{outcome, answers, after}
 use Rattle.rules.specs.Sound.{tally}
 use Rattle.promises.specs.Reach.{Reaches}
-use Rattle.promises.specs.Cycle.{Closes}
+use Rattle.promises.specs.Cycle.{Closes, Cycle, freedAmong}
+use Rattle.promises.specs.Lost.{Lost, LoopKeeps}
 use Rattle.promises.specs.Seen.{seenAfter, lastSeen}
 use Rattle.promises.proofs.Hold.{run-holds, reached-event}
 use Rattle.promises.proofs.Reached.{freed-unreached}
+use Rattle.promises.proofs.LostFreed.{lost-freed}
 use Rattle.promises.proofs.LastSeen.{event-sees, fresh-run-saw, counts-of-seen}
 
 -- after any events, no event frees a record that a worker reaches
@@ -40,3 +43,10 @@ counts-at-a-close s r events e c =
     counts-of-seen s (outcome s (after s (fresh s) events) e .pool) (reached-event s r (after s (fresh s) events) x e .sound) (c .after)
     (seenAfter s (after s (fresh s) events) e (lastSeen s (fresh s) (λ l. none) events))
     (event-sees (x .sound) (lastSeen s (fresh s) (λ l. none) events) (fresh-run-saw s r events) e)
+
+-- after any events, in the cycle that an event then opens, whatever happens until it closes: a record that was lost at the opening, and that no closed loop of
+-- lost records contained or led to, is freed
+pub lost-is-freed : (s : Sizes) → inRange s ≡ true → (events : List Event) (e : Event) (during : List Event) → Cycle s (after s (fresh s) events) e during
+    → (a : RecordNumber) → Lost s (after s (fresh s) events) a → (LoopKeeps s (after s (fresh s) events) a → ⊥)
+    → freedAmong a (answers s (after s (fresh s) events) (e ∷ during)) ≡ true
+lost-is-freed = lost-freed

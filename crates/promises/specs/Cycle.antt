@@ -1,11 +1,19 @@
 -- A cycle, of "What the pool is" of document 01.
 --     Opens, Closes     an event opens a cycle, closes one
+--     ToClose           events that go on until the cycle closes, with the last of them
+--     Cycle             a whole cycle: the event that opens it, and those up to the one that closes it
+--     freedAmong        a record is freed by one of some answers
 -- Assumes nothing.
 use mathlib.Core.Path.{_≡_}
+use mathlib.Core.Bool.{Bool, false, _||_}
+use mathlib.Core.List.{List, [], _∷_}
 use Rattle.rules.specs.declared.Sizes.{Sizes}
+use Rattle.rules.specs.declared.RecordNumber.{RecordNumber}
 use Rattle.rules.specs.declared.Event.{Event}
+use Rattle.rules.specs.declared.Answer.{Answer}
+use Rattle.rules.specs.declared.Answer.the-variants.{Fresh, Made, Moved, Dropped, Loaded, Stored, Stepped, Freed, Refused}
 use Rattle.rules.specs.Pool.{Pool}
-use Rattle.rules.specs.Outcome.{outcome}
+use Rattle.rules.specs.Outcome.{outcome, sameRecord}
 
 -- "A cycle opens with the step out of phase 0"
 pub record Opens (s : Sizes) (p : Pool) (e : Event) : Type 0 where
@@ -16,3 +24,27 @@ pub record Opens (s : Sizes) (p : Pool) (e : Event) : Type 0 where
 pub record Closes (s : Sizes) (p : Pool) (e : Event) : Type 0 where
   pub before : p .collector .phase ≡ 0 → ⊥
   pub after : outcome s p e .pool .collector .phase ≡ 0
+
+pub data ToClose (s : Sizes) : Pool → List Event → Type 0 where
+  closing : {p : Pool} {e : Event} → Closes s p e → ToClose s p (e ∷ [])
+  going-on : {p : Pool} {e : Event} {events : List Event} → (outcome s p e .pool .collector .phase ≡ 0 → ⊥) → ToClose s (outcome s p e .pool) events → ToClose s p (e ∷ events)
+
+pub record Cycle (s : Sizes) (p : Pool) (e : Event) (events : List Event) : Type 0 where
+  pub opens : Opens s p e
+  pub to-close : ToClose s (outcome s p e .pool) events
+
+-- an answer frees a record
+abbrev pub freedBy : RecordNumber → Answer → Bool
+freedBy a Fresh = false
+freedBy a (Made b) = false
+freedBy a (Moved b) = false
+freedBy a Dropped = false
+freedBy a (Loaded b) = false
+freedBy a (Stored b) = false
+freedBy a Stepped = false
+freedBy a (Freed b) = sameRecord b a
+freedBy a (Refused why) = false
+
+unfoldable pub freedAmong : RecordNumber → List Answer → Bool
+freedAmong a [] = false
+freedAmong a (x ∷ answers) = freedBy a x || freedAmong a answers

@@ -66,7 +66,7 @@ module _ (s : Sizes) (p : Pool) (h : Sound s p) (a : RecordNumber) where
 
   stores-told : (w q f r : ℕ) → Told (stores s w q f r p)
   unfolding usedAfter stores added
-  stores-told w q f r = stored-has s p w q f r (λ t. usedAt t a ≡ usedAt p a) (λ marks t e. e) (λ off. refl) (λ on. refl)
+  stores-told w q f r = stored-has s p w q f r (λ t. usedAt t a ≡ usedAt p a) (λ on t e. e) (λ off. refl) (λ on. refl)
 
   pub used-event : (e : Event) → Told (outcome s p e)
   unfolding outcome does makes moves drops loads usedAfter

@@ -1,0 +1,408 @@
+-- What was lost when a cycle opened, loops aside, is freed in that cycle.
+--     frees-remaining     freeing a record takes it out of those that remain
+--     event-remaining     every event but the close keeps what is known of those that remain
+--     left-back           at the close each that remains is linked to from another
+--     closing-step        what closes a cycle is a step of phase 6 that finds nothing
+--     lost-remaining      at the opening what is lost remains
+--     freed-by-the-close  so by the close all are freed that no loop keeps
+--     lost-freed          and so it is in each cycle of a run
+-- Assumes nothing.
+use Prim.Native.Nat.{ℕ, zero, suc, _≤_, _<_, zero-le}
+use mathlib.Core.Path.{_≡_, refl, sym, ap, _∙_, subst}
+use mathlib.Core.Logic.{_⊎_, inl, inr, ⊎-elim}
+use mathlib.Core.Bool.{Bool, true, false, _&&_, _||_, true≢false}
+use mathlib.Core.List.{List, [], _∷_}
+use native.Mathlib.Omega.{arith}
+use native.Mathlib.Nat.{eq-zero-or-pos}
+use borrow.Author.Tests.{ne-eqb, eqb-false, leb-true}
+use lib.ListN.{length, getD, List·getD-eq-default}
+use Rattle.rules.specs.declared.Sizes.{Sizes}
+use Rattle.rules.specs.declared.RecordNumber.{RecordNumber}
+use Rattle.rules.specs.declared.LinkNumber.{LinkNumber}
+use Rattle.rules.specs.declared.Event.{Event}
+use Rattle.rules.specs.declared.Event.the-variants.{Make, Move, Drop, Load, Store, Collect}
+use Rattle.rules.specs.Size.{between, inRange, links, linkNumber}
+use Rattle.rules.specs.Pool.{Pool, none, ofRecord, fresh, usedAt, countAt, makerAt, valueAt, changedAt, registerAt}
+use Rattle.rules.specs.View.{times, oldIn, allLogs, viewValue}
+use Rattle.rules.specs.Reply.{Outcome}
+use Rattle.rules.specs.Worker.{makes, moves, drops, loads, added, stores}
+use Rattle.rules.specs.Collect.{phaseAfter, onward, stepped, opens, snoops, madeBy, takes, clears, scans, falls, rises, counted, counts, passes, reclaimed, emptied, emptiedFrom, frees, closes, reclaim, reclaims, collects}
+use Rattle.rules.specs.Outcome.{sameRecord, refused, does, outcome, answers, after}
+use Rattle.rules.specs.Sound.{Each, Sound}
+use Rattle.laws.proofs.Tests.{below-or-not, and-left, and-right, bit-off}
+use Rattle.laws.proofs.Number.{record-same, link-same, link-inside, link-split, link-apart}
+use Rattle.laws.proofs.Lists.{ofRecord-other, Each-all, Each-map}
+use Rattle.laws.proofs.Entries.{times-foreign}
+use Rattle.laws.proofs.LookUp.{lookUp-keeps, view-marked, view-unmarked}
+use Rattle.laws.proofs.Tally.{tally-found}
+use Rattle.laws.proofs.Change.{stored-has, emptied-keeps, emptied-values, emptied-other, emptied-none}
+use Rattle.laws.proofs.Marks.{on-some, on-low}
+use Rattle.laws.proofs.Search.{Passed, passes-all, reclaimed-passes, reclaimed-none}
+use Rattle.laws.proofs.Refusals.{LinkThere, decided-outcome, can-make, can-load, can-store}
+use Rattle.laws.proofs.Phases.{by-phase, onward-cases, phase-goes-up}
+use Rattle.soundness.proofs.Core.{core-in}
+use Rattle.promises.specs.Reach.{holds, leads}
+use Rattle.promises.specs.Cycle.{Cycle, ToClose, closing, going-on, freedBy, freedAmong}
+use Rattle.promises.specs.Lost.{Lost, LoopKeeps}
+use Rattle.promises.proofs.Hold.{Reached, reached-fresh, reached-event, run-holds}
+use Rattle.promises.proofs.Ready.{Ready, event-ready, fresh-ready}
+use Rattle.promises.proofs.Apart.{Apart, Shrunk, apart-event, two-workers-share-nothing}
+use Rattle.promises.proofs.Remain.{Foreign, Left, Holder, Remains, Remaining, left-by, left-some, register-remains, makes-remains, stores-remains, remains-in, opens-remaining, snoops-remaining, takes-remaining, clears-remaining, scans-remaining, counts-remaining}
+use Rattle.promises.proofs.Chain.{Back, loop-found}
+
+-- ---- freeing
+
+module _ {s : Sizes} {p₀ p : Pool} {R : RecordNumber → Type 0} (sound : Sound s p) (h : Remains s p₀ p R 6 (p .collector .position)) (y : RecordNumber) (some : 1 ≤ y .0) (low : y .0 ≤ s .n) where
+  abbrev freed : Pool
+  freed = frees s y p
+
+  abbrev Others : RecordNumber → Type 0
+  Others x = R x × (sameRecord y x ≡ false)
+
+  apart-from : (x : RecordNumber) → sameRecord y x ≡ false → x .0 ≡ y .0 → ⊥
+  apart-from x n e = eqb-false y.0 x.0 n (sym e)
+
+  freed-value : (l : LinkNumber) → (valueAt freed l ≡ valueAt p l) ⊎ (valueAt freed l ≡ none)
+  unfolding frees
+  freed-value l = emptied-values s y 0 (s .k) p l
+
+  freed-workers : freed .workers ≡ p .workers
+  unfolding frees emptied falls
+  freed-workers = emptied-keeps (λ q. q .workers) (λ l q. refl) s y 0 (s .k) p
+
+  shrunk : Shrunk p freed
+  shrunk = record { registers = λ v r. ap (λ ws. getD (getD (ws .registers) v []) r none) freed-workers; values = freed-value }
+
+  frees-remains : Remains s p₀ freed Others 6 (p .collector .position)
+  unfolding frees emptied falls
+  frees-remains =
+      record {
+        left =
+            λ x z.
+            let l = h .left x (z .0) in
+            left-by freed 6 (p .collector .position) l shrunk
+            (ofRecord-other (emptiedFrom s y 0 (s .k) p .records .used) y.0 x.0 false false (λ e. apart-from x (z .1) (sym e))
+            ∙ ap (λ table. ofRecord table x.0 false) (emptied-keeps (λ q. q .records .used) (λ m q. refl) s y 0 (s .k) p))
+            (ap (λ table. ofRecord table x.0 false) (emptied-keeps (λ q. q .records .held) (λ m q. refl) s y 0 (s .k) p) ∙ l .unheld)
+            (λ f k. emptied-other s y 0 (s .k) p (linkNumber s x f) (λ g a b e. apart-from x (z .1) (link-apart s x y f g (left-some l) some k (omega arith) e)))
+            (λ v e. l .maker v (sym (ap (λ table. ofRecord table x.0 0) (emptied-keeps (λ q. q .records .maker) (λ m q. refl) s y 0 (s .k) p)) ∙ e))
+            (λ w k. subst (λ ws. Each (Foreign s x) (getD (ws .log) w [])) (sym freed-workers) (l .logs w k));
+        holders = λ l x z e. ⊎-elim (λ same. other-holder l x z e (h .holders l x (z .0) (sym same ∙ e))) (λ nothing. absurd (nothing-there x z (sym nothing ∙ e))) (freed-value l);
+      }
+    where
+      nothing-there : (x : RecordNumber) → Others x → none ≡ x → ⊥
+      nothing-there x z e = let some-x = left-some (h .left x (z .0)) in omega (arith, ap (λ (a : RecordNumber). a .0) e)
+
+      -- a link that still holds something is none of the record freed
+      other-holder : (l : LinkNumber) (x : RecordNumber) → Others x → valueAt freed l ≡ x → Holder s R l → Holder s Others l
+      other-holder l x z e b =
+          record {
+            who = b .who;
+            which = b .which;
+            remains = (b .remains, ne-eqb y.0 (b .who .0) (λ q. nothing-there x z (sym (emptied-here q) ∙ e)));
+            inside = b .inside;
+            number = b .number;
+          }
+        where
+          emptied-here : y .0 ≡ b .who .0 → valueAt freed l ≡ none
+          emptied-here q =
+              ap (valueAt freed) (link-same l (linkNumber s (b .who) (b .which)) (b .number) ∙ ap (λ (a : RecordNumber). linkNumber s a (b .which)) (sym (record-same y (b .who) q)))
+              ∙ emptied-none s y 0 (s .k) p (λ g a c. omega (arith, link-inside s y g some low (omega arith), sound .shaped .links .value)) (b .which) zero-le (let k = b .inside in omega arith)
+
+-- ---- at the close
+
+-- each record that remains is linked to from another: no step of phase 6 takes it, and all else that it asks is so
+module _ {s : Sizes} {p₀ p : Pool} {R : RecordNumber → Type 0} (sound : Sound s p) (ready : Ready p) (e : p .collector .phase ≡ 6) (h : Remains s p₀ p R 6 (p .collector .position)) (done : reclaimed s p .0 ≡ 0) where
+  module _ (x : RecordNumber) (y : R x) where
+    abbrev l : Left s p₀ p 6 (p .collector .position) x
+    l = h .left x y
+
+    some : 1 ≤ x .0
+    some = left-some l
+
+    low : x .0 ≤ s .n
+    low = let z = on-low (p .records .used) x.0 (l .used) in omega (arith, sound .shaped .records .used)
+
+    foreign : Each (Foreign s x) (allLogs p)
+    unfolding allLogs
+    foreign = Each-all (Foreign s x) (p .workers .log) (λ w k. l .logs w (omega (arith, sound .shaped .workers .log)))
+
+    no-maker : makerAt p x ≡ 0
+    no-maker = by-maker (makerAt p x) refl
+      where
+        by-maker : (m : ℕ) → makerAt p x ≡ m → makerAt p x ≡ 0
+        by-maker zero z = z
+        by-maker (suc v) z = absurd (let late = l .maker v z in omega (arith, sound .makers x))
+
+    unmarked : (f : ℕ) → f < s .k → changedAt p (linkNumber s x f) ≡ false
+    unfolding times
+    unmarked f k =
+        bit-off (changedAt p (linkNumber s x f))
+        (omega (
+          arith,
+          core-in sound 6 e .marks (linkNumber s x f) (link-inside s x f some low k),
+          times-foreign (linkNumber s x f) (allLogs p) (Each-map (allLogs p) (λ y z. z .link f k) foreign),
+        ))
+
+    -- its count is not 0, or it would pass
+    counted-for : 1 ≤ countAt p x
+    counted-for = ⊎-elim (λ z. absurd (true≢false (sym (passes-all s p x (pass z)) ∙ reclaimed-none s p done x some low))) (λ z. z) (eq-zero-or-pos (countAt p x))
+      where
+        pass : countAt p x ≡ 0 → Passed s p x
+        pass z = record { used = l .used; candidate = ready .waiting x (l .used) z no-maker; count = z; held = l .unheld; unchanged = unmarked }
+
+    -- so a link has it as its view value, which is its value, since no log names it
+    pub left-back : Back s p₀ R x
+    unfolding oldIn
+    left-back = from (tally-found (λ m. oldIn m [] (viewValue p m)) (links s) x (omega (arith, counted-for, core-in sound 6 e .counts x some low)))
+      where
+        value : (m : LinkNumber) → viewValue p m .0 ≡ x .0 → (b : Bool) → changedAt p m ≡ b → valueAt p m ≡ x
+        value m z true on =
+            absurd
+            (lookUp-keeps (λ a. a .0 ≡ x .0 → ⊥) m (p .workers .log) (unfold allLogs in Each-map (allLogs p) (λ y q. q .old) foreign) (λ q. omega (arith, some))
+            (ap (λ (a : RecordNumber). a .0) (sym (view-marked p m on)) ∙ z))
+        value m z false off = record-same (valueAt p m) x (ap (λ (a : RecordNumber). a .0) (sym (view-unmarked p m off)) ∙ z)
+
+        from : (m : LinkNumber) × (m .0 < links s) × (viewValue p m .0 ≡ x .0) → Back s p₀ R x
+        from z =
+            let m = z .0 in
+            let v = value m (z .2) (changedAt p m) refl in
+            let b = h .holders m x y v in
+            record {
+              who = b .who;
+              which = b .which;
+              has = b .remains;
+              inside = b .inside;
+              value = sym (h .left (b .who) (b .remains) .links (b .which) (b .inside)) ∙ ap (valueAt p) (sym (link-same m (linkNumber s (b .who) (b .which)) (b .number))) ∙ v;
+            }
+
+-- ---- every event but the close
+
+-- neither a store nor freeing moves the collector's record
+stores-collector : (s : Sizes) (p : Pool) (w q f r : ℕ) → stores s w q f r p .pool .collector ≡ p .collector
+unfolding added
+stores-collector s p w q f r = stored-has s p w q f r (λ t. t .collector ≡ p .collector) (λ on t h. h) (λ off. refl) (λ on. refl)
+
+frees-collector : (s : Sizes) (y : RecordNumber) (p : Pool) → frees s y p .collector ≡ p .collector
+unfolding frees emptied falls
+frees-collector s y p = emptied-keeps (λ q. q .collector) (λ l q. refl) s y 0 (s .k) p
+
+-- those that remain after an answer
+abbrev Since : (RecordNumber → Type 0) → Outcome → RecordNumber → Type 0
+Since R o x = R x × (freedBy x (o .answer) ≡ false)
+
+-- an answer that frees nothing takes nothing out
+narrowed : {s : Sizes} {p₀ q : Pool} {R T : RecordNumber → Type 0} {k i : ℕ} → ((x : RecordNumber) → T x) → Remains s p₀ q R k i → Remains s p₀ q (λ x. R x × T x) k i
+narrowed all h =
+    record {
+      left = λ x y. h .left x (y .0);
+      holders =
+          λ l x y e.
+          let b = h .holders l x (y .0) e in
+          record { who = b .who; which = b .which; remains = (b .remains, all (b .who)); inside = b .inside; number = b .number };
+    }
+
+module _ {s : Sizes} {p₀ p : Pool} {R : RecordNumber → Type 0} (reached : Reached s p) (apart : Apart s p) (h : Remaining s p₀ R p) where
+  -- what an outcome leaves, if it does not close the cycle
+  abbrev Goes-on : Outcome → Type 0
+  Goes-on o = (o .pool .collector .phase ≡ 0 → ⊥) → Remaining s p₀ (Since R o) (o .pool)
+
+  abbrev here : ℕ
+  here = p .collector .position
+
+  reclaims-goes-on : p .collector .phase ≡ 6 → Goes-on (reclaims s p)
+  unfolding reclaims reclaim closes
+  reclaims-goes-on e = by-number (reclaimed s p .0) refl (reclaimed-passes s p)
+    where
+      by-number : (k : ℕ) → reclaimed s p .0 ≡ k → (reclaimed s p .0 ≡ 0) ⊎ ((passes s p (reclaimed s p) ≡ true) × (1 ≤ reclaimed s p .0) × (reclaimed s p .0 ≤ s .n)) → Goes-on (reclaim s p k)
+      by-number zero f x = λ open-still. absurd (open-still refl)
+      by-number (suc i) f (inl z) = absurd (omega arith)
+      by-number (suc i) f (inr x) = λ open-still.
+          let y : RecordNumber = record { 0 = suc i } in
+          subst (λ c. Remains s p₀ (frees s y p) (λ z. R z × (sameRecord y z ≡ false)) (c .phase) (c .position)) (sym (frees-collector s y p))
+          (subst (λ (k : ℕ). Remains s p₀ (frees s y p) (λ z. R z × (sameRecord y z ≡ false)) k here) (sym e)
+          (frees-remains (reached .sound) (remains-in (reached .sound) h 6 e) y (omega arith) (omega (arith, x .2))))
+
+  stores-goes-on : (w q f r : ℕ) → LinkThere s p w q f → Goes-on (stores s w q f r p)
+  unfolding stores
+  stores-goes-on w q f r there open-still =
+      narrowed (λ x. refl)
+      (subst (λ c. Remains s p₀ (stores s w q f r p .pool) R (c .phase) (c .position)) (sym (stores-collector s p w q f r)) (stores-remains h apart w q f r there))
+
+  pub event-remaining : (e : Event) → Goes-on (outcome s p e)
+  unfolding outcome does makes moves drops loads opens snoops takes clears scans counts
+  event-remaining (Make w r) =
+      decided-outcome Goes-on p (λ why z. narrowed (λ x. refl) h) _ _ (λ t z. narrowed (λ x. refl) (makes-remains h (reached .state .named) w r (can-make s p w r t .1)))
+  event-remaining (Move w r q) =
+      decided-outcome Goes-on p (λ why z. narrowed (λ x. refl) h) _ _ (λ t z. narrowed (λ x. refl) (register-remains h w r (registerAt p w q) (λ some. holds q refl some)))
+  event-remaining (Drop w r) =
+      decided-outcome Goes-on p (λ why z. narrowed (λ x. refl) h) _ _ (λ t z. narrowed (λ x. refl) (register-remains h w r none (λ some. absurd (omega arith))))
+  event-remaining (Load w r q f) =
+      decided-outcome Goes-on p (λ why z. narrowed (λ x. refl) h) _ _ (λ t z.
+      let there : LinkThere s p w q f = can-load s p w r q f t .2 in
+      narrowed (λ x. refl)
+      (register-remains h w r (valueAt p (linkNumber s (registerAt p w q) f)) (λ some. leads f (holds q refl (there .holds)) (there .link) refl some)))
+  event-remaining (Store w q f r) =
+      decided-outcome Goes-on p (λ why z. narrowed (λ x. refl) h) _ _ (λ t. stores-goes-on w q f r (can-store s p w q f r t .2))
+  event-remaining Collect =
+      decided-outcome Goes-on p (λ why z. narrowed (λ x. refl) h) _ _ (λ t.
+      by-phase s p Goes-on (reached .sound .phase)
+      (λ e z. narrowed (λ x. refl) (opens-remaining (reached .sound) h e))
+      (λ e z. narrowed (λ x. refl) (snoops-remaining (reached .sound) h e))
+      (λ e z. narrowed (λ x. refl) (takes-remaining (reached .sound) h e))
+      (λ e z. narrowed (λ x. refl) (clears-remaining (reached .sound) h e))
+      (λ e z. narrowed (λ x. refl) (scans-remaining (reached .sound) h e))
+      (λ e z. narrowed (λ x. refl) (counts-remaining (reached .sound) h e))
+      reclaims-goes-on)
+
+-- ---- the close
+
+-- what closes a cycle is a step of phase 6 that finds nothing to free
+module _ (s : Sizes) (p : Pool) (most : p .collector .phase ≤ 6) (open-before : p .collector .phase ≡ 0 → ⊥) where
+  abbrev Closed : Outcome → Type 0
+  Closed o = o .pool .collector .phase ≡ 0 → (p .collector .phase ≡ 6) × (reclaimed s p .0 ≡ 0)
+
+  -- a step onward arrives in a phase that is not 0
+  late : (q : Pool) (n k : ℕ) → q .collector .phase ≡ suc k → Closed (stepped (onward n q))
+  late q n k e =
+      onward-cases (λ t. t .collector .phase ≡ 0 → (p .collector .phase ≡ 6) × (reclaimed s p .0 ≡ 0)) q n (suc k) (phaseAfter (suc k) (q .history)) e refl
+      (λ h z. absurd (omega arith))
+      (λ h z. absurd (let up = phase-goes-up (suc k) (q .history) in omega arith))
+
+  reclaims-closed : p .collector .phase ≡ 6 → Closed (reclaims s p)
+  unfolding reclaims reclaim
+  reclaims-closed e = by-number (reclaimed s p .0) refl
+    where
+      by-number : (k : ℕ) → reclaimed s p .0 ≡ k → Closed (reclaim s p k)
+      by-number zero f z = (e, f)
+      by-number (suc i) f z = absurd (open-before (sym (ap (λ c. c .phase) (frees-collector s (record { 0 = suc i }) p)) ∙ z))
+
+  collects-closed : Closed (collects s p)
+  unfolding opens snoops takes madeBy clears scans counts counted falls rises
+  collects-closed =
+      by-phase s p Closed most
+      (λ e z. absurd (open-before e))
+      (λ e. late _ (s .w) 0 e)
+      (λ e. late _ (s .w) 1 e)
+      (λ e. late _ (length (p .history)) 2 e)
+      (λ e. late _ (s .w) 3 e)
+      (λ e. late _ (length (p .history)) 4 e)
+      reclaims-closed
+
+  -- no other event moves the collector's record
+  still-open : (o : Outcome) → o .pool .collector ≡ p .collector → Closed o
+  still-open o same z = absurd (open-before (ap (λ c. c .phase) (sym same) ∙ z))
+
+  closing-step : (e : Event) → Closed (outcome s p e)
+  unfolding outcome does makes moves drops loads
+  closing-step (Make w r) = decided-outcome Closed p (λ why. still-open (refused why p) refl) _ _ (λ t. still-open (makes w r p) refl)
+  closing-step (Move w r q) = decided-outcome Closed p (λ why. still-open (refused why p) refl) _ _ (λ t. still-open (moves w r q p) refl)
+  closing-step (Drop w r) = decided-outcome Closed p (λ why. still-open (refused why p) refl) _ _ (λ t. still-open (drops w r p) refl)
+  closing-step (Load w r q f) = decided-outcome Closed p (λ why. still-open (refused why p) refl) _ _ (λ t. still-open (loads s w r q f p) refl)
+  closing-step (Store w q f r) = decided-outcome Closed p (λ why. still-open (refused why p) refl) _ _ (λ t. still-open (stores s w q f r p) (stores-collector s p w q f r))
+  closing-step Collect = decided-outcome Closed p (λ why. still-open (refused why p) refl) _ _ (λ t. collects-closed)
+
+-- ---- the opening
+
+some-link : (s : Sizes) → inRange s ≡ true → 1 ≤ s .k
+unfolding inRange
+some-link s h =
+    let both : (between 1 1024 (s .n) && between 1 8 (s .k)) ≡ true = and-left _ (between 1 8 (s .w)) (and-left _ (between 1 16 (s .r)) h) in
+    leb-true 1 (s .k) (and-left _ _ (and-right (between 1 1024 (s .n)) (between 1 8 (s .k)) both))
+
+-- what is lost remains: only links of lost records hold it
+lost-remaining : (s : Sizes) → inRange s ≡ true → (p : Pool) → Reached s p → Ready p → p .collector .phase ≡ 0 → Remaining s p (Lost s p) p
+lost-remaining s r p reached ready e =
+    subst (λ (k : ℕ). Remains s p p (Lost s p) k (p .collector .position)) (sym e)
+    (record {
+      left =
+          λ x y.
+          record {
+            used = y .used;
+            unreached = y .unreached;
+            unheld = ready .unheld e x;
+            links = λ f k. refl;
+            maker = λ v z. zero-le;
+            logs = λ w z. absurd (omega arith);
+          };
+      holders = λ l x y z. holder l x y z (below-or-not l.0 (links s));
+    })
+  where
+    holder : (l : LinkNumber) (x : RecordNumber) → Lost s p x → valueAt p l ≡ x → (l .0 < links s) ⊎ (links s ≤ l .0) → Holder s (Lost s p) l
+    holder l x y z (inl inside) =
+        let w = link-split s (some-link s r) l inside in
+        record {
+          who = w .0;
+          which = w .1;
+          remains = record { used = by-mark (usedAt p (w .0)) refl (w .1) (w .2) (w .4) (held-by (w .0) (w .1) (w .5)); unreached = λ v q. y .unreached v (leads (w .1) q (w .4) (held-by (w .0) (w .1) (w .5)) some) };
+          inside = w .4;
+          number = w .5;
+        }
+      where
+        some : 1 ≤ x .0
+        some = on-some (p .records .used) x.0 (y .used)
+
+        held-by : (a : RecordNumber) (f : ℕ) → l .0 ≡ linkNumber s a f .0 → valueAt p (linkNumber s a f) ≡ x
+        held-by a f q = ap (valueAt p) (sym (link-same l (linkNumber s a f) q)) ∙ z
+
+        -- the links of a free record hold none
+        by-mark : {a : RecordNumber} (b : Bool) → usedAt p a ≡ b → (f : ℕ) → 1 ≤ a .0 → f < s .k → valueAt p (linkNumber s a f) ≡ x → usedAt p a ≡ true
+        by-mark true q f some-a k v = q
+        by-mark {a} false q f some-a k v =
+            absurd (omega (arith, some, ap (λ (c : RecordNumber). c .0) (sym (reached .state .named .free-links a some-a q f k) ∙ v)))
+    holder l x y z (inr beyond) =
+        let past : length (p .links .value) ≤ l .0 = omega (arith, reached .sound .shaped .links .value) in
+        let nothing : valueAt p l ≡ none = List·getD-eq-default (p .links .value) none past in
+        absurd (let some = on-some (p .records .used) x.0 (y .used) in omega (arith, ap (λ (c : RecordNumber). c .0) (sym nothing ∙ z)))
+
+-- ---- the whole cycle
+
+or-else : (b c : Bool) → (b ≡ false → c ≡ true) → (b || c) ≡ true
+or-else true c h = refl
+or-else false c h = h refl
+
+pub freed-by-the-close : (s : Sizes) → inRange s ≡ true → (p₀ : Pool) → length (p₀ .records .used) ≡ s .n → (R : RecordNumber → Type 0) → ((a : RecordNumber) → R a → Lost s p₀ a)
+    → (p : Pool) → Reached s p → Ready p → Apart s p → Remaining s p₀ R p
+    → (events : List Event) → ToClose s p events
+    → (a : RecordNumber) → R a → (LoopKeeps s p₀ a → ⊥) → freedAmong a (answers s p events) ≡ true
+unfolding answers freedAmong
+freed-by-the-close s r p₀ n R lost p reached ready apart h events (closing {e = e} c) a y no-loop =
+    let end : (p .collector .phase ≡ 6) × (reclaimed s p .0 ≡ 0) = closing-step s p (reached .sound .phase) (c .before) e (c .after) in
+    absurd
+    (no-loop
+    (loop-found s p₀ n R lost (λ b z. left-back (reached .sound) ready (end .0) (remains-in (reached .sound) h 6 (end .0)) (end .1) b z) (record { at = a; has = y })))
+freed-by-the-close s r p₀ n R lost p reached ready apart h events (going-on {e = e} {events = later} open-still rest) a y no-loop =
+    or-else (freedBy a (outcome s p e .answer)) (freedAmong a (answers s (outcome s p e .pool) later)) (λ f.
+    freed-by-the-close s r p₀ n (Since R (outcome s p e)) (λ b z. lost b (z .0)) (outcome s p e .pool)
+    (reached-event s r p reached e)
+    (event-ready s p (reached .sound) (reached .state) ready e)
+    (apart-event s p reached e apart)
+    (event-remaining reached apart h e open-still)
+    later
+    rest
+    a
+    (y, f)
+    no-loop)
+
+-- ---- a run
+
+ready-run : (s : Sizes) → inRange s ≡ true → (p : Pool) → Reached s p → Ready p → (events : List Event) → Ready (after s p events)
+unfolding after
+ready-run s r p x ready [] = ready
+ready-run s r p x ready (e ∷ events) =
+    ready-run s r (outcome s p e .pool) (reached-event s r p x e) (event-ready s p (x .sound) (x .state) ready e) events
+
+pub lost-freed : (s : Sizes) → inRange s ≡ true → (before : List Event) (e : Event) (during : List Event) → Cycle s (after s (fresh s) before) e during
+    → (a : RecordNumber) → Lost s (after s (fresh s) before) a → (LoopKeeps s (after s (fresh s) before) a → ⊥)
+    → freedAmong a (answers s (after s (fresh s) before) (e ∷ during)) ≡ true
+lost-freed s r before e during c a lost no-loop =
+    let p : Pool = after s (fresh s) before in
+    let reached : Reached s p = run-holds s r before in
+    let ready : Ready p = ready-run s r (fresh s) (reached-fresh s) (fresh-ready s) before in
+    freed-by-the-close s r p (reached .sound .shaped .records .used) (Lost s p) (λ b z. z) p reached ready (two-workers-share-nothing s r before)
+    (lost-remaining s r p reached ready (c .opens .before))
+    (e ∷ during)
+    (going-on (c .opens .after) (c .to-close))
+    a
+    lost
+    no-loop
