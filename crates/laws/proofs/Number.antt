@@ -1,4 +1,5 @@
--- Record numbers and link numbers.
+-- The sizes, record numbers and link numbers.
+--     Bounds, bounds            the sizes in range
 --     record-same, link-same    two with one number are one
 --     link-inside               a link of a record has a number below S
 --     link-split                every link is of a record
@@ -6,12 +7,57 @@
 -- Assumes nothing.
 use Prim.Native.Nat.{ℕ, suc, _+_, _-_, _*_, _/_, _%_, _≤_, _<_}
 use mathlib.Core.Path.{_≡_, sym, ap, _∙_}
+use mathlib.Core.Bool.{Bool, true, _&&_}
 use native.Mathlib.Omega.{arith}
 use native.Mathlib.Nat.{suc-mul, mul-le-mul-right, mul-add-div-right, div-eq-of-lt, div-lt-iff-lt-mul, div-add-mod', mod-lt}
+use borrow.Author.Tests.{leb-true}
+use lib.Dec.{leb}
 use Rattle.rules.specs.declared.Sizes.{Sizes}
 use Rattle.rules.specs.declared.RecordNumber.{RecordNumber}
 use Rattle.rules.specs.declared.LinkNumber.{LinkNumber}
-use Rattle.rules.specs.Size.{links, linkNumber}
+use Rattle.rules.specs.Size.{between, inRange, links, linkNumber}
+use Rattle.laws.proofs.Tests.{and-left, and-right}
+
+-- ---- the sizes
+
+-- "N records 1..1024, K links in each 1..8, W workers 1..8, R registers per worker 1..16."
+pub record Bounds (s : Sizes) : Type 0 where
+  pub n-least : 1 ≤ s .n
+  pub n-most : s .n ≤ 1024
+  pub k-least : 1 ≤ s .k
+  pub k-most : s .k ≤ 8
+  pub w-least : 1 ≤ s .w
+  pub w-most : s .w ≤ 8
+  pub r-least : 1 ≤ s .r
+  pub r-most : s .r ≤ 16
+
+least : (low high x : ℕ) → between low high x ≡ true → low ≤ x
+least low high x h = leb-true low x (and-left (leb low x) (leb x high) h)
+
+most : (low high x : ℕ) → between low high x ≡ true → x ≤ high
+most low high x h = leb-true x high (and-right (leb low x) (leb x high) h)
+
+pub bounds : (s : Sizes) → inRange s ≡ true → Bounds s
+unfolding inRange
+bounds s h =
+    let n : Bool = between 1 1024 (s .n) in
+    let k : Bool = between 1 8 (s .k) in
+    let w : Bool = between 1 8 (s .w) in
+    let r : Bool = between 1 16 (s .r) in
+    let nkw : (n && k && w) ≡ true = and-left (n && k && w) r h in
+    let nk : (n && k) ≡ true = and-left (n && k) w nkw in
+    record {
+      n-least = least 1 1024 (s .n) (and-left n k nk);
+      n-most = most 1 1024 (s .n) (and-left n k nk);
+      k-least = least 1 8 (s .k) (and-right n k nk);
+      k-most = most 1 8 (s .k) (and-right n k nk);
+      w-least = least 1 8 (s .w) (and-right (n && k) w nkw);
+      w-most = most 1 8 (s .w) (and-right (n && k) w nkw);
+      r-least = least 1 16 (s .r) (and-right (n && k && w) r h);
+      r-most = most 1 16 (s .r) (and-right (n && k && w) r h);
+    }
+
+-- ---- the two kinds of number
 
 pub record-same : (a b : RecordNumber) → a .0 ≡ b .0 → a ≡ b
 record-same a b e = λ j. record { 0 = e j }

@@ -34,6 +34,7 @@ use Rattle.soundness.proofs.Fresh.{nothing-held}
 use Rattle.promises.specs.Reach.{Reaches, holds, leads}
 use Rattle.promises.proofs.Invariant.{Named}
 use Rattle.promises.proofs.Register.{register-cases}
+use Rattle.promises.proofs.Reached.{reached-used}
 use Rattle.promises.proofs.Hold.{Reached, reached-fresh, reached-event}
 
 abbrev pub Apart : Sizes → Pool → Type 0
@@ -78,11 +79,6 @@ module _ {s : Sizes} {p : Pool} (w r : ℕ) (x : RecordNumber) (reached : 1 ≤ 
 -- ---- make
 
 module _ {s : Sizes} {p : Pool} (n : Named s p) where
-  -- what is reached is used
-  reached-used : {v : ℕ} {a : RecordNumber} → Reaches s p v a → usedAt p a ≡ true
-  reached-used {v} (holds r e some) = subst (λ b. 1 ≤ b .0 → usedAt p b ≡ true) e (n .registers v r) some
-  reached-used (leads {a = a} f x k e some) = subst (λ b. 1 ≤ b .0 → usedAt p b ≡ true) e (n .values (linkNumber s a f)) some
-
   module _ (w r : ℕ) (some : 1 ≤ chosen p .0) where
     abbrev new : RecordNumber
     new = chosen p
@@ -106,7 +102,7 @@ module _ {s : Sizes} {p : Pool} (n : Named s p) where
         (back-made v a y)
 
     not-new : {v : ℕ} {a : RecordNumber} → Reaches s p v a → new ≡ a → ⊥
-    not-new x e = true≢false (sym (reached-used x) ∙ ap (λ (c : RecordNumber). usedAt p c) (sym e) ∙ free)
+    not-new x e = true≢false (sym (reached-used n x) ∙ ap (λ (c : RecordNumber). usedAt p c) (sym e) ∙ free)
 
     apart-made : Apart s p → Apart s (makes w r p .pool)
     apart-made h v u m a x y = both (back-made v a x) (back-made u a y)

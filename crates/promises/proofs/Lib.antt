@@ -10,7 +10,7 @@
 --     Apart         no record is in the reach of two workers
 --     LastSeen      the counts are those of the values last seen
 --     Ready         two more facts of every pool of a run
---     Remain        what was lost at the opening of a cycle, through the cycle
+--     Remain, Opening     what was lost at the opening of a cycle, through the cycle and at the opening
 --     Pigeon, Chain     records that lead back to one another for ever come round
 --     LostFreed     what was lost is freed
 --     Promises      the statements
@@ -30,5 +30,6 @@ pub mod Ready
 pub mod Remain
 pub mod Pigeon
 pub mod Chain
+pub mod Opening
 pub mod LostFreed
 pub mod Promises

@@ -3,40 +3,39 @@
 --     event-remaining     every event but the close keeps what is known of those that remain
 --     left-back           at the close each that remains is linked to from another
 --     closing-step        what closes a cycle is a step of phase 6 that finds nothing
---     lost-remaining      at the opening what is lost remains
 --     freed-by-the-close  so by the close all are freed that no loop keeps
 --     lost-freed          and so it is in each cycle of a run
 -- Assumes nothing.
 use Prim.Native.Nat.{ℕ, zero, suc, _≤_, _<_, zero-le}
 use mathlib.Core.Path.{_≡_, refl, sym, ap, _∙_, subst}
 use mathlib.Core.Logic.{_⊎_, inl, inr, ⊎-elim}
-use mathlib.Core.Bool.{Bool, true, false, _&&_, _||_, true≢false}
+use mathlib.Core.Bool.{Bool, true, false, _||_, true≢false}
 use mathlib.Core.List.{List, [], _∷_}
 use native.Mathlib.Omega.{arith}
 use native.Mathlib.Nat.{eq-zero-or-pos}
-use borrow.Author.Tests.{ne-eqb, eqb-false, leb-true}
-use lib.ListN.{length, getD, List·getD-eq-default}
+use borrow.Author.Tests.{ne-eqb, eqb-false}
+use lib.ListN.{length, getD}
 use Rattle.rules.specs.declared.Sizes.{Sizes}
 use Rattle.rules.specs.declared.RecordNumber.{RecordNumber}
 use Rattle.rules.specs.declared.LinkNumber.{LinkNumber}
 use Rattle.rules.specs.declared.Event.{Event}
 use Rattle.rules.specs.declared.Event.the-variants.{Make, Move, Drop, Load, Store, Collect}
-use Rattle.rules.specs.Size.{between, inRange, links, linkNumber}
-use Rattle.rules.specs.Pool.{Pool, none, ofRecord, fresh, usedAt, countAt, makerAt, valueAt, changedAt, registerAt}
+use Rattle.rules.specs.Size.{inRange, links, linkNumber}
+use Rattle.rules.specs.Pool.{Pool, none, ofRecord, fresh, countAt, makerAt, valueAt, changedAt, registerAt}
 use Rattle.rules.specs.View.{times, oldIn, allLogs, viewValue}
 use Rattle.rules.specs.Reply.{Outcome}
 use Rattle.rules.specs.Worker.{makes, moves, drops, loads, added, stores}
 use Rattle.rules.specs.Collect.{phaseAfter, onward, stepped, opens, snoops, madeBy, takes, clears, scans, falls, rises, counted, counts, passes, reclaimed, emptied, emptiedFrom, frees, closes, reclaim, reclaims, collects}
 use Rattle.rules.specs.Outcome.{sameRecord, refused, does, outcome, answers, after}
 use Rattle.rules.specs.Sound.{Each, Sound}
-use Rattle.laws.proofs.Tests.{below-or-not, and-left, and-right, bit-off}
-use Rattle.laws.proofs.Number.{record-same, link-same, link-inside, link-split, link-apart}
+use Rattle.laws.proofs.Tests.{bit-off}
+use Rattle.laws.proofs.Number.{record-same, link-same, link-inside, link-apart}
 use Rattle.laws.proofs.Lists.{ofRecord-other, Each-all, Each-map}
 use Rattle.laws.proofs.Entries.{times-foreign}
 use Rattle.laws.proofs.LookUp.{lookUp-keeps, view-marked, view-unmarked}
 use Rattle.laws.proofs.Tally.{tally-found}
 use Rattle.laws.proofs.Change.{stored-has, emptied-keeps, emptied-values, emptied-other, emptied-none}
-use Rattle.laws.proofs.Marks.{on-some, on-low}
+use Rattle.laws.proofs.Marks.{on-low}
 use Rattle.laws.proofs.Search.{Passed, passes-all, reclaimed-passes, reclaimed-none}
 use Rattle.laws.proofs.Refusals.{LinkThere, decided-outcome, can-make, can-load, can-store}
 use Rattle.laws.proofs.Phases.{by-phase, onward-cases, phase-goes-up}
@@ -48,6 +47,7 @@ use Rattle.promises.proofs.Hold.{Reached, reached-fresh, reached-event,
 use Rattle.promises.proofs.Ready.{Ready, event-ready, fresh-ready}
 use Rattle.promises.proofs.Apart.{Apart, Shrunk, apart-event, two-workers-share-nothing}
 use Rattle.promises.proofs.Remain.{Foreign, Left, Holder, Remains, Remaining, left-by, left-some, register-remains, makes-remains, stores-remains, remains-in, opens-remaining, snoops-remaining, takes-remaining, clears-remaining, scans-remaining, counts-remaining}
+use Rattle.promises.proofs.Opening.{lost-remaining}
 use Rattle.promises.proofs.Chain.{Back, loop-found}
 
 -- ---- freeing
@@ -301,59 +301,6 @@ module _ (s : Sizes) (p : Pool) (most : p .collector .phase ≤ 6) (open-before 
   closing-step (Load w r q f) = decided-outcome Closed p (λ why. still-open (refused why p) refl) _ _ (λ t. still-open (loads s w r q f p) refl)
   closing-step (Store w q f r) = decided-outcome Closed p (λ why. still-open (refused why p) refl) _ _ (λ t. still-open (stores s w q f r p) (stores-collector s p w q f r))
   closing-step Collect = decided-outcome Closed p (λ why. still-open (refused why p) refl) _ _ (λ t. collects-closed)
-
--- ---- the opening
-
-some-link : (s : Sizes) → inRange s ≡ true → 1 ≤ s .k
-unfolding inRange
-some-link s h =
-    let both : (between 1 1024 (s .n) && between 1 8 (s .k)) ≡ true = and-left _ (between 1 8 (s .w)) (and-left _ (between 1 16 (s .r)) h) in
-    leb-true 1 (s .k) (and-left _ _ (and-right (between 1 1024 (s .n)) (between 1 8 (s .k)) both))
-
--- what is lost remains: only links of lost records hold it
-lost-remaining : (s : Sizes) → inRange s ≡ true → (p : Pool) → Reached s p → Ready p → p .collector .phase ≡ 0 → Remaining s p (Lost s p) p
-lost-remaining s r p reached ready e =
-    subst (λ (k : ℕ). Remains s p p (Lost s p) k (p .collector .position)) (sym e)
-    (record {
-      left =
-          λ x y.
-          record {
-            used = y .used;
-            unreached = y .unreached;
-            unheld = ready .unheld e x;
-            links = λ f k. refl;
-            maker = λ v z. zero-le;
-            logs = λ w z. absurd (omega arith);
-          };
-      holders = λ l x y z. holder l x y z (below-or-not l.0 (links s));
-    })
-  where
-    holder : (l : LinkNumber) (x : RecordNumber) → Lost s p x → valueAt p l ≡ x → (l .0 < links s) ⊎ (links s ≤ l .0) → Holder s (Lost s p) l
-    holder l x y z (inl inside) =
-        let w = link-split s (some-link s r) l inside in
-        record {
-          who = w .0;
-          which = w .1;
-          remains = record { used = by-mark (usedAt p (w .0)) refl (w .1) (w .2) (w .4) (held-by (w .0) (w .1) (w .5)); unreached = λ v q. y .unreached v (leads (w .1) q (w .4) (held-by (w .0) (w .1) (w .5)) some) };
-          inside = w .4;
-          number = w .5;
-        }
-      where
-        some : 1 ≤ x .0
-        some = on-some (p .records .used) x.0 (y .used)
-
-        held-by : (a : RecordNumber) (f : ℕ) → l .0 ≡ linkNumber s a f .0 → valueAt p (linkNumber s a f) ≡ x
-        held-by a f q = ap (valueAt p) (sym (link-same l (linkNumber s a f) q)) ∙ z
-
-        -- the links of a free record hold none
-        by-mark : {a : RecordNumber} (b : Bool) → usedAt p a ≡ b → (f : ℕ) → 1 ≤ a .0 → f < s .k → valueAt p (linkNumber s a f) ≡ x → usedAt p a ≡ true
-        by-mark true q f some-a k v = q
-        by-mark {a} false q f some-a k v =
-            absurd (omega (arith, some, ap (λ (c : RecordNumber). c .0) (sym (reached .state .named .free-links a some-a q f k) ∙ v)))
-    holder l x y z (inr beyond) =
-        let past : length (p .links .value) ≤ l .0 = omega (arith, reached .sound .shaped .links .value) in
-        let nothing : valueAt p l ≡ none = List·getD-eq-default (p .links .value) none past in
-        absurd (let some = on-some (p .records .used) x.0 (y .used) in omega (arith, ap (λ (c : RecordNumber). c .0) (sym nothing ∙ z)))
 
 -- ---- the whole cycle
 

@@ -1,8 +1,8 @@
 -- What the pool promises, over any events from a fresh pool, refused ones among them. Nothing is assumed of the events. The words are those of specs/ and of
 -- `rules`.
---     reached-is-never-freed     what a worker can reach is never freed
---     counts-at-a-close          at each close the counts are those of the values the collector last saw
---     lost-is-freed              what was lost when a cycle opened, loops aside, is freed in that cycle
+--     reached-is-never-freed, reached-stays-used     what a worker can reach is never freed
+--     counts-at-a-close     at each close the counts are those of the values the collector last saw
+--     lost-is-freed         what was lost when a cycle opened, loops aside, is freed in that cycle
 -- Assumes nothing.
 use Prim.Native.Nat.{ℕ, _≤_}
 use mathlib.Core.Path.{_≡_}
@@ -13,7 +13,7 @@ use Rattle.rules.specs.declared.RecordNumber.{RecordNumber}
 use Rattle.rules.specs.declared.Event.{Event}
 use Rattle.rules.specs.declared.Answer.the-variants.{Freed}
 use Rattle.rules.specs.Size.{inRange, links}
-use Rattle.rules.specs.Pool.{none, countAt, fresh}
+use Rattle.rules.specs.Pool.{none, usedAt, countAt, fresh}
 use Rattle.rules.specs.Outcome.{outcome, answers, after}
 use Rattle.rules.specs.Sound.{tally}
 use Rattle.promises.specs.Reach.{Reaches}
@@ -21,7 +21,7 @@ use Rattle.promises.specs.Cycle.{Closes, Cycle, freedAmong}
 use Rattle.promises.specs.Lost.{Lost, LoopKeeps}
 use Rattle.promises.specs.Seen.{seenAfter, lastSeen}
 use Rattle.promises.proofs.Hold.{run-holds, reached-event}
-use Rattle.promises.proofs.Reached.{freed-unreached}
+use Rattle.promises.proofs.Reached.{freed-unreached, reached-used-after}
 use Rattle.promises.proofs.LostFreed.{lost-freed}
 use Rattle.promises.proofs.LastSeen.{event-sees, fresh-run-saw, counts-of-seen}
 
@@ -31,6 +31,13 @@ pub reached-is-never-freed : (s : Sizes) → inRange s ≡ true → (events : Li
     → (w : ℕ) → Reaches s (after s (fresh s) events) w a → ⊥
 reached-is-never-freed s r events e a =
     freed-unreached (run-holds s r events .sound) (run-holds s r events .state) e a
+
+-- and what a worker reaches stays used, whatever happens
+pub reached-stays-used : (s : Sizes) → inRange s ≡ true → (events : List Event) (e : Event) (a : RecordNumber) (w : ℕ)
+    → Reaches s (after s (fresh s) events) w a
+    → usedAt (outcome s (after s (fresh s) events) e .pool) a ≡ true
+reached-stays-used s r events e a w x =
+    reached-used-after (run-holds s r events .sound) (run-holds s r events .state) e a w x
 
 -- after any events, where an event closes a cycle each record's count is the number of links of which the collector last saw that they hold it
 pub counts-at-a-close : (s : Sizes) → inRange s ≡ true → (events : List Event) (e : Event) → Closes s (after s (fresh s) events) e

@@ -1,12 +1,14 @@
 -- What a worker can reach is never freed.
 --     marked-inside      a link whose mark is on has a number below S
 --     reached-kept       in phase 6 what a worker reaches is kept
+--     reached-used       what is reached is used
 --     collected-unreached, freed-unreached     a record that an event frees passed the search, so that nothing keeps it and no worker reaches it
+--     reached-used-after     so what is reached stays used
 -- Assumes nothing.
 use Prim.Native.Nat.{ℕ, zero, suc, _≤_, _<_}
 use mathlib.Core.Path.{_≡_, refl, sym, ap, _∙_, subst}
 use mathlib.Core.Logic.{_⊎_, inl, inr, ⊎-elim}
-use mathlib.Core.Bool.{Bool, true, false, true≢false}
+use mathlib.Core.Bool.{Bool, true, false, cond, true≢false}
 use mathlib.Core.List.{List, []}
 use native.Mathlib.Omega.{arith}
 use lib.ListN.{length, getD, List·getD-eq-default}
@@ -18,20 +20,21 @@ use Rattle.rules.specs.declared.Event.the-variants.{Make, Move, Drop, Load, Sto
 use Rattle.rules.specs.declared.Answer.{Answer}
 use Rattle.rules.specs.declared.Answer.the-variants.{Fresh, Made, Moved, Dropped, Loaded, Stored, Stepped, Freed, Refused}
 use Rattle.rules.specs.Size.{links, linkNumber}
-use Rattle.rules.specs.Pool.{Pool, none, changedAt, registersAt}
+use Rattle.rules.specs.Pool.{Pool, none, usedAt, changedAt, registersAt}
 use Rattle.rules.specs.Reply.{Outcome}
 use Rattle.rules.specs.Worker.{makes, moves, drops, loads, stores}
 use Rattle.rules.specs.Collect.{opens, snoops, takes, clears, scans, counts, passes, reclaimed, reclaim, reclaims, collects}
-use Rattle.rules.specs.Outcome.{does, outcome}
+use Rattle.rules.specs.Outcome.{sameRecord, usedAfter, does, outcome}
 use Rattle.rules.specs.Sound.{Sound}
-use Rattle.laws.proofs.Tests.{below-or-not}
+use Rattle.laws.proofs.Tests.{eqb-cases, below-or-not}
 use Rattle.laws.proofs.Number.{record-same}
 use Rattle.laws.proofs.LookUp.{view-unmarked}
 use Rattle.laws.proofs.Search.{passed, reclaimed-passes}
 use Rattle.laws.proofs.Refusals.{decided-outcome}
 use Rattle.laws.proofs.Phases.{by-phase}
+use Rattle.soundness.proofs.Used.{used-event}
 use Rattle.promises.specs.Reach.{Reaches, holds, leads}
-use Rattle.promises.proofs.Invariant.{Kept, by-view}
+use Rattle.promises.proofs.Invariant.{Used, Kept, by-view, Named}
 use Rattle.promises.proofs.Lost.{unkept}
 use Rattle.promises.proofs.Run.{State, phased-in, taken-lost}
 
@@ -49,6 +52,10 @@ frees? (Refused why) = ⊥
 
 told-apart : {x : Answer} {a : RecordNumber} → x ≡ Freed a → frees? x
 told-apart e = subst frees? (sym e) tt
+
+pub reached-used : {s : Sizes} {p : Pool} → Named s p → {v : ℕ} {a : RecordNumber} → Reaches s p v a → usedAt p a ≡ true
+reached-used {s} {p} n {v} (holds r e some) = subst (Used p) e (n .registers v r) some
+reached-used {s} {p} n (leads {a = a} f x k e some) = subst (Used p) e (n .values (linkNumber s a f)) some
 
 module _ {s : Sizes} {p : Pool} (sound : Sound s p) (state : State s p) where
   marked-inside : (l : LinkNumber) → changedAt p l ≡ true → l .0 < links s
@@ -113,3 +120,27 @@ module _ {s : Sizes} {p : Pool} (sound : Sound s p) (state : State s p) where
   freed-unreached (Load v r q f) a = decided-outcome (Unreached a) p (λ why z w x. told-apart z) _ _ (λ t z w x. told-apart z)
   freed-unreached (Store v q f r) a = decided-outcome (Unreached a) p (λ why z w x. told-apart z) _ _ (λ t z w x. told-apart z)
   freed-unreached Collect a = decided-outcome (Unreached a) p (λ why z w x. told-apart z) _ _ (λ t. collected-unreached a)
+
+-- so what is reached stays used
+used-after : (a : RecordNumber) (x : Answer) → (x ≡ Freed a → ⊥) → usedAfter a true x ≡ true
+unfolding usedAfter
+used-after a Fresh n = refl
+used-after a (Made b) n = by-test (sameRecord b a)
+  where
+    by-test : (t : Bool) → cond t true true ≡ true
+    by-test true = refl
+    by-test false = refl
+used-after a (Moved b) n = refl
+used-after a Dropped n = refl
+used-after a (Loaded b) n = refl
+used-after a (Stored b) n = refl
+used-after a Stepped n = refl
+used-after a (Freed b) n =
+    ⊎-elim (λ e. absurd (n (ap Freed (record-same b a (e .0))))) (λ e. ap (λ t. cond t false true) (e .1)) (eqb-cases b.0 a.0)
+used-after a (Refused why) n = refl
+
+pub reached-used-after : {s : Sizes} {p : Pool} → Sound s p → State s p → (e : Event) (a : RecordNumber) (w : ℕ) → Reaches s p w a → usedAt (outcome s p e .pool) a ≡ true
+reached-used-after {s} {p} sound state e a w x =
+    used-event s p sound a e
+    ∙ ap (λ before. usedAfter a before (outcome s p e .answer)) (reached-used (state .named) x)
+    ∙ used-after a (outcome s p e .answer) (λ z. freed-unreached sound state e a z w x)

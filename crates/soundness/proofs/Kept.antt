@@ -4,32 +4,23 @@
 --     event-keeps-sound    every event on a sound pool leaves a sound pool
 --     run-is-sound         a run from the fresh pool is sound at each place
 -- Assumes nothing.
-use Prim.Native.Nat.{ℕ, _<_}
+use Prim.Native.Nat.{ℕ}
 use mathlib.Core.Path.{_≡_}
-use mathlib.Core.Bool.{true, _&&_}
+use mathlib.Core.Bool.{true}
 use mathlib.Core.List.{List, [], _∷_}
 use lib.ListN.{take}
-use borrow.Author.Tests.{leb-true}
 use Rattle.rules.specs.declared.Sizes.{Sizes}
 use Rattle.rules.specs.declared.Event.{Event}
 use Rattle.rules.specs.declared.Event.the-variants.{Make, Move, Drop, Load, Store, Collect}
-use Rattle.rules.specs.Size.{between, inRange}
+use Rattle.rules.specs.Size.{inRange}
 use Rattle.rules.specs.Pool.{Pool, fresh}
 use Rattle.rules.specs.Outcome.{does, outcome, after}
 use Rattle.rules.specs.Sound.{Sound}
-use Rattle.laws.proofs.Tests.{and-left, and-right}
+use Rattle.laws.proofs.Number.{bounds}
 use Rattle.laws.proofs.Refusals.{decided, can-make, can-store}
 use Rattle.soundness.proofs.Steps.{collects-sound}
 use Rattle.soundness.proofs.Events.{makes-sound, moves-sound, drops-sound, loads-sound, stores-sound}
 use Rattle.soundness.proofs.Fresh.{fresh-sound}
-
--- the sizes have a worker
-some-worker : (s : Sizes) → inRange s ≡ true → 0 < s .w
-unfolding inRange
-some-worker s h =
-    let workers : between 1 8 (s .w) ≡ true =
-    and-right (between 1 1024 (s .n) && between 1 8 (s .k)) (between 1 8 (s .w)) (and-left _ (between 1 16 (s .r)) h) in
-    leb-true 1 (s .w) (and-left _ _ workers)
 
 pub fresh-is-sound : (s : Sizes) → Sound s (fresh s)
 fresh-is-sound s = fresh-sound s
@@ -42,7 +33,7 @@ event-keeps-sound s r p h (Drop w q) = decided (Sound s) p h _ _ (λ t. drops-so
 event-keeps-sound s r p h (Load w q f g) = decided (Sound s) p h _ _ (λ t. loads-sound h w q f g)
 event-keeps-sound s r p h (Store w q f g) =
     decided (Sound s) p h _ _ (λ t. let k = can-store s p w q f g t in stores-sound h w q f g (k .0 .worker) (k .2 .link) (k .2 .holds))
-event-keeps-sound s r p h Collect = decided (Sound s) p h _ _ (λ t. collects-sound (some-worker s r) h)
+event-keeps-sound s r p h Collect = decided (Sound s) p h _ _ (λ t. collects-sound (bounds s r .w-least) h)
 
 -- every pool of a run from a sound one is sound
 from-sound : (s : Sizes) → inRange s ≡ true → (p : Pool) → Sound s p → (events : List Event) → Sound s (after s p events)
