@@ -11,6 +11,7 @@
 //! - `trace`      the fields of a trace, and the order of a field's refusals
 //! - `replay`     a whole trace: what is printed
 //! - `text`       the text form of a trace
+//! - `row`        a trace as a row that the proved rules compute
 //!
 //! The checks
 //! - `sound`      a sound pool, clause by clause
@@ -38,6 +39,7 @@ pub mod pool;
 pub mod random;
 pub mod reach;
 pub mod replay;
+pub mod row;
 pub mod sound;
 pub mod tally;
 pub mod text;

@@ -1,11 +1,14 @@
 //! `trace write`       the text form on standard input to bytes on standard output
 //! `trace show`        bytes to the text form, damaged ones too
 //! `trace make SEED`   the bytes of the trace that this seed makes
+//! `trace row NAME MOST`   bytes to a row that the proved rules compute; nothing where the trace is
+//!                         refused or has more events than MOST
 
 use std::io::{self, Read, Write};
 use std::process::ExitCode;
 
 use second::maker::make;
+use second::row::row;
 use second::text;
 
 fn main() -> ExitCode {
@@ -15,7 +18,11 @@ fn main() -> ExitCode {
         ["write"] => write(),
         ["show"] => show(),
         ["make", seed] => made(seed),
-        _ => Err("usage: trace write < TEXT | trace show < BYTES | trace make SEED".into()),
+        ["row", name, most] => rowed(name, most),
+        _ => Err(
+            "usage: trace write < TEXT | trace show < BYTES | trace make SEED | trace row NAME MOST < BYTES"
+                .into(),
+        ),
     };
     let done = bytes.and_then(|bytes| io::stdout().write_all(&bytes).map_err(|error| error.to_string()));
     match done {
@@ -40,6 +47,11 @@ fn write() -> Result<Vec<u8>, String> {
 
 fn show() -> Result<Vec<u8>, String> {
     Ok(text::show(&input()?).into_bytes())
+}
+
+fn rowed(name: &str, most: &str) -> Result<Vec<u8>, String> {
+    let most = most.parse().map_err(|_| format!("`{most}` is no number of events"))?;
+    Ok(row(name, &input()?, most).unwrap_or_default().into_bytes())
 }
 
 fn made(seed: &str) -> Result<Vec<u8>, String> {
