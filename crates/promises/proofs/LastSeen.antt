@@ -1,5 +1,8 @@
 -- The value of a link that the collector last saw. While the link's entry is in the history and not yet cleared it is the entry's old value, else it is the link's
 -- view value.
+-- The argument. A worker event moves no view value, and phase 2 only moves entries. Where phase 3 clears a mark, the link's value becomes its view value and is
+-- what was last seen; the link has no second entry. Where phase 6 empties a link, both become none. At a close nothing is left to be cleared or counted, so the
+-- counts, which are the tallies of the view values, are those of the values last seen.
 --     seenIn          what was last seen of a link, read off the pool
 --     quiet           an outcome that clears no mark and empties no link
 --     event-sees      every event keeps it so

@@ -1,4 +1,10 @@
 -- What was lost when a cycle opened, loops aside, is freed in that cycle.
+-- The argument. Take the records that were lost at the opening and are not freed yet. Through the cycle they stay used, out of reach and not held, and their links
+-- hold what they held: a worker changes only what it reaches, and the scan and the snooping hold only that. Only their own links hold one of them. Their makers'
+-- logs are taken in phase 2 and their marks cleared in phase 3, and no entry written since speaks of them. At the close no record passes the search. Such a
+-- record would pass if its count were 0, since a used record with count 0 and no maker is a candidate; so some link has it as its view value, which is its
+-- value, since no log names it: it is linked to from another of them. Going back so from link to link a record comes round, since there are only N: a
+-- closed loop keeps it. Whatever no loop keeps was therefore freed.
 --     frees-remaining     freeing a record takes it out of those that remain
 --     event-remaining     every event but the close keeps what is known of those that remain
 --     left-back           at the close each that remains is linked to from another

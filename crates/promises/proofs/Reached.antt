@@ -1,4 +1,10 @@
 -- What a worker can reach is never freed.
+-- The argument. From phase 4 on call kept the records that are held, or have a maker, or have a marked link, and all that view values lead to from these. View
+-- values do not move between two clearings, other than to none when a record is freed, and the roots only grow within phases 4 to 6; so what is kept stays kept.
+-- Every register of a scanned worker holds none or a kept record, and so does every marked link: the scan holds what it finds; before it the snooping holds what
+-- is stored; after it a worker has only what it got through kept records, by a view value or from under a mark. In phase 6 all workers are scanned, so whatever
+-- can be reached is kept. What phase 6 takes is not: its count is 0, so no view value is it; it is not held, has no marked link, and no maker, since a record made
+-- since its maker's log was taken is a candidate only if it is held. The invariant (Invariant.antt) carries this through the cycle; Run and Work prove it kept.
 --     marked-inside      a link whose mark is on has a number below S
 --     reached-kept       in phase 6 what a worker reaches is kept
 --     reached-used       what is reached is used

@@ -107,7 +107,8 @@ unfoldable pub after : Sizes → Pool → List Event → Pool
 after s p [] = p
 after s p (e ∷ events) = after s (outcome s p e .pool) events
 
--- whether a record is used after an answer: a make uses the record that it answers, and a collector step frees the one that it answers
+-- whether a record is used after an answer: a make uses the record that it answers, and a collector step frees the one that it answers. No event answers
+-- `Fresh`
 abbrev pub sameRecord : RecordNumber → RecordNumber → Bool
 sameRecord b a = eqb (b .0) (a .0)
 

@@ -1,5 +1,11 @@
 -- Document 01, "A sound pool": "Every event on a sound pool leaves a sound pool." Nothing is assumed of the event: it may be a worker's or the collector's,
 -- and it may be refused.
+-- The argument. A count is the tally of what the links count for, and a link counts for its history entry's old value until that entry is counted, then for
+-- its view value. A worker event changes none of these: a store on an unmarked link logs the very value that the link counts for, and on a marked link only the
+-- present value moves. Phase 2 moves entries from a log to the history, old value and all; phase 3 clears the mark of an entry that is not yet counted; phase 5
+-- moves one link from its old value to its view value, one count down and one up; phase 6 empties links whose marks are off, each from its present value to none.
+-- So no count falls below 0 and none passes S. Marks follow the entries one for one: a store adds an entry and a mark, phase 3 takes both away. And since no link
+-- has two entries among all logs and the uncleared history, these are at most S together, so that there is room for each.
 --     fresh-is-sound       the fresh pool is sound
 --     event-keeps-sound    every event on a sound pool leaves a sound pool
 --     run-is-sound         a run from the fresh pool is sound at each place

@@ -37,8 +37,11 @@ use Rattle.soundness.proofs.Reclaim.{core-emptied-from}
 
 module _ {s : Sizes} {p : Pool} (h : Sound s p) where
   -- registers, links and entries hold record numbers 0..N (`registers`, `values`, `logs` and `history` of `Sound`); one that is not none has its place
-  pub record-inside : (a : RecordNumber) → a .0 ≤ s .n → 1 ≤ a .0 → a .0 - 1 < length (p .records .used)
-  record-inside a low some = omega (arith, h .shaped .records .used)
+  -- in every table of the records, each of which has N
+  pub record-inside : (a : RecordNumber) → a .0 ≤ s .n → 1 ≤ a .0 → (a .0 - 1 < length (p .records .used)) × (a .0 - 1 < length (p .records .count)) × (a .0 - 1 < length (p .records .held)) × (a .0 - 1 < length (p .records .candidate)) × (a .0 - 1 < length (p .records .maker))
+  record-inside a low some =
+      let r = h .shaped .records in
+      (omega (arith, r .used), omega (arith, r .count), omega (arith, r .held), omega (arith, r .candidate), omega (arith, r .maker))
 
   pub link-below : (w q f : ℕ) → 1 ≤ registerAt p w q .0 → f < s .k → linkNumber s (registerAt p w q) f .0 < links s
   link-below w q f some k = link-inside s (registerAt p w q) f some (h .registers w q) k
