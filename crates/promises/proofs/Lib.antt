@@ -14,6 +14,7 @@
 --     Pigeon, Chain     records that lead back to one another for ever come round
 --     LostFreed     what was lost is freed
 --     Promises      the statements
+--     Example       they speak of something: the document's listing
 pub mod Invariant
 pub mod Grow
 pub mod Register
@@ -33,3 +34,4 @@ pub mod Chain
 pub mod Opening
 pub mod LostFreed
 pub mod Promises
+pub mod Example

@@ -1,0 +1,85 @@
+-- The promises speak of something: document 01's listing has a cycle, and at its opening record 1 is lost and no loop keeps it. So the third promise says of it what
+-- the listing prints, that record 1 is freed in that cycle.
+--     begun, opened        the listing's make and drop, and the pool then
+--     one-cycle            its six collect events are a cycle
+--     one-lost, no-loop    record 1 is lost, and no closed loop keeps it
+--     one-freed            so it is freed
+-- Assumes nothing.
+use Prim.Native.Nat.{ℕ, zero, suc}
+use mathlib.Core.Path.{_≡_, refl, sym, ap, _∙_}
+use mathlib.Core.Bool.{true, true≢false}
+use mathlib.Core.List.{List, [], _∷_}
+use native.Mathlib.Omega.{arith}
+use Rattle.rules.specs.declared.Sizes.{Sizes}
+use Rattle.rules.specs.declared.RecordNumber.{RecordNumber}
+use Rattle.rules.specs.declared.Event.{Event}
+use Rattle.rules.specs.declared.Event.the-variants.{Make, Drop, Collect}
+use Rattle.rules.specs.Size.{linkNumber}
+use Rattle.rules.specs.Pool.{Pool, none, usedAt, valueAt, registerAt, fresh}
+use Rattle.rules.specs.Outcome.{answers, after}
+use Rattle.rules.specs.Starred.{sizesOf}
+use Rattle.rules.proofs.Starred.{computes}
+use Rattle.promises.specs.Reach.{Reaches, holds, leads}
+use Rattle.promises.specs.Cycle.{Cycle, closing, going-on, freedAmong}
+use Rattle.promises.specs.Lost.{Lost, LeadsTo, link, on, LoopKeeps}
+use Rattle.promises.proofs.Promises.{lost-is-freed}
+
+abbrev sizes : Sizes
+sizes = sizesOf 2 1 1 1
+
+abbrev begun : List Event
+begun = Make 0 0 ∷ Drop 0 0 ∷ []
+
+abbrev opened : Pool
+opened = after sizes (fresh sizes) begun
+
+abbrev one : RecordNumber
+one = record { 0 = 1 }
+
+abbrev rest : List Event
+rest = Collect ∷ Collect ∷ Collect ∷ Collect ∷ Collect ∷ []
+
+not-zero : (n : ℕ) → suc n ≡ 0 → ⊥
+not-zero n e = omega arith
+
+-- the phases are 0, then 1, 2, 4, 6, where a record is freed, 6 again, and 0
+one-cycle : Cycle sizes opened Collect rest
+unfolding computes
+one-cycle =
+    record {
+      opens = record { before = refl; after = not-zero 0 };
+      to-close = going-on (not-zero 1) (going-on (not-zero 3) (going-on (not-zero 5) (going-on (not-zero 5) (closing (record { before = not-zero 5; after = refl })))));
+    }
+
+-- the one register is empty, and so are both links
+no-register : (w r : ℕ) → registerAt opened w r ≡ none
+unfolding computes
+no-register zero zero = refl
+no-register zero (suc r) = refl
+no-register (suc w) r = refl
+
+no-value : (l : ℕ) → valueAt opened (record { 0 = l }) ≡ none
+unfolding computes
+no-value zero = refl
+no-value (suc zero) = refl
+no-value (suc (suc l)) = refl
+
+nothing-reached : {w : ℕ} {a : RecordNumber} → Reaches sizes opened w a → ⊥
+nothing-reached {w} (holds r e some) = omega (arith, ap (λ (b : RecordNumber). b .0) (sym (no-register w r) ∙ e))
+nothing-reached (leads f x k e some) = nothing-reached x
+
+one-lost : Lost sizes opened one
+unfolding computes
+one-lost = record { used = refl; unreached = λ w x. nothing-reached x }
+
+nothing-leads : {a b : RecordNumber} → LeadsTo sizes opened a b → ⊥
+nothing-leads (link {a = a} {b = b} f from to k e) =
+    true≢false (sym (to .used) ∙ ap (λ (c : RecordNumber). usedAt opened c) (sym e ∙ no-value (linkNumber sizes a f .0)))
+nothing-leads (on x y) = nothing-leads x
+
+no-loop : LoopKeeps sizes opened one → ⊥
+no-loop x = nothing-leads (x .loop)
+
+pub one-freed : freedAmong one (answers sizes opened (Collect ∷ rest)) ≡ true
+unfolding computes
+one-freed = lost-is-freed sizes refl begun Collect rest one-cycle one one-lost no-loop
