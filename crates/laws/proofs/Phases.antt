@@ -2,20 +2,22 @@
 --     by-phase           the collect event is the step of the phase
 --     moved              a pool with the collector moved to a phase and a position
 --     onward-cases       a step moves to the next position, or after the last to the next phase
+--     closed-up, closed-again     the closed-cycle number
 --     phase-goes-up, after-snooping .. after-counting     the phase after each
 -- Assumes nothing.
-use Prim.Native.Nat.{ℕ, zero, suc, _≤_, _<_}
+use Prim.Native.Nat.{ℕ, zero, suc, _+_, _≤_, _<_}
 use mathlib.Core.Path.{_≡_, refl, sym, ap, _∙_, subst}
 use mathlib.Core.Bool.{Bool, true, false, cond}
 use mathlib.Core.List.{List, [], _∷_}
 use native.Mathlib.Omega.{arith}
+use native.Mathlib.Nat.{mod-eq-of-lt}
 use borrow.Author.Tests.{leb-true, leb-false}
 use lib.ListN.{getD}
 use Rattle.rules.specs.declared.Sizes.{Sizes}
 use Rattle.rules.specs.declared.Collector.{Collector}
 use Rattle.rules.specs.Pool.{Entry, Pool, withCollector}
 use Rattle.rules.specs.Reply.{Outcome}
-use Rattle.rules.specs.Collect.{skipped, phaseAfter, lastOf, onward, stepped, opens, snoops, takes, clears, scans, counts, reclaims, phases, collects}
+use Rattle.rules.specs.Collect.{skipped, phaseAfter, lastOf, onward, stepped, opens, snoops, takes, clears, scans, counts, nextClosed, closes, reclaims, phases, collects}
 
 -- ---- the list of phases
 
@@ -77,6 +79,15 @@ phase-goes-up phase history = by-skip (skipped (suc phase) history)
     by-skip : (b : Bool) → phase < cond b (suc (suc phase)) (suc phase)
     by-skip true = omega arith
     by-skip false = omega arith
+
+-- "closed-cycle number up by one", "after 65,535 it goes on at 0"
+pub closed-up : (p : Pool) → p .collector .closed < 65535 → closes p .collector .closed ≡ p .collector .closed + 1
+unfolding closes
+closed-up p h = mod-eq-of-lt (let low : p .collector .closed + 1 < 65536 = omega arith in low)
+
+pub closed-again : (p : Pool) → p .collector .closed ≡ 65535 → closes p .collector .closed ≡ 0
+unfolding closes
+closed-again p e = ap nextClosed e
 
 -- "After the last worker, phase 2."
 pub after-snooping : (history : List Entry) → phaseAfter 1 history ≡ 2

@@ -34,7 +34,7 @@ use Rattle.soundness.proofs.Fresh.{nothing-held}
 use Rattle.promises.specs.Reach.{Reaches, holds, leads}
 use Rattle.promises.proofs.Invariant.{Named}
 use Rattle.promises.proofs.Register.{register-cases}
-use Rattle.promises.proofs.Reached.{reached-used}
+use Rattle.promises.proofs.Reached.{reaches-some, reached-used}
 use Rattle.promises.proofs.Hold.{Reached, reached-fresh, reached-event}
 
 abbrev pub Apart : Sizes → Pool → Type 0
@@ -43,10 +43,6 @@ Apart s p = (v w : ℕ) → (v ≡ w → ⊥) → (a : RecordNumber) → Reaches
 -- what a worker reaches after, it reached before
 apart-shrinks : {s : Sizes} (p q : Pool) → ((v : ℕ) (a : RecordNumber) → Reaches s q v a → Reaches s p v a) → Apart s p → Apart s q
 apart-shrinks p q back h v w n a x y = h v w n a (back v a x) (back w a y)
-
-reaches-some : {s : Sizes} {p : Pool} {w : ℕ} {a : RecordNumber} → Reaches s p w a → 1 ≤ a .0
-reaches-some (holds r e some) = some
-reaches-some (leads f x k e some) = some
 
 -- registers stay, and a link keeps its value or becomes none
 pub reach-shrinks : {s : Sizes} (p q : Pool)

@@ -80,6 +80,6 @@ nothing-leads (on x y) = nothing-leads x
 no-loop : LoopKeeps sizes opened one → ⊥
 no-loop x = nothing-leads (x .loop)
 
-pub one-freed : freedAmong one (answers sizes opened (Collect ∷ rest)) ≡ true
+pub one-freed : freedAmong one (Collect ∷ rest) (answers sizes opened (Collect ∷ rest)) ≡ true
 unfolding computes
 one-freed = lost-is-freed sizes refl begun Collect rest one-cycle one one-lost no-loop

@@ -19,7 +19,7 @@ use Rattle.laws.proofs.Refusals.{decided, can-make, can-load, can-store}
 use Rattle.soundness.proofs.Fresh.{getD-same, ofRecord-all, no-logs, nothing-held, empty}
 use Rattle.soundness.proofs.Kept.{fresh-is-sound, event-keeps-sound}
 use Rattle.promises.proofs.Invariant.{Used}
-use Rattle.promises.proofs.Cycle.{phased-none}
+use Rattle.promises.proofs.Phases.{phased-none}
 use Rattle.promises.proofs.Run.{State, collects-kept}
 use Rattle.promises.proofs.Work.{makes-kept, moves-kept, drops-kept, loads-kept, stores-kept}
 

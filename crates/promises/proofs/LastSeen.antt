@@ -25,10 +25,11 @@ use Rattle.rules.specs.declared.LinkNumber.{LinkNumber}
 use Rattle.rules.specs.declared.Refusal.{Refusal}
 use Rattle.rules.specs.declared.Event.{Event}
 use Rattle.rules.specs.declared.Event.the-variants.{Make, Move, Drop, Load, Store, Collect}
+use Rattle.rules.specs.declared.Answer.the-variants.{Refused}
 use Rattle.rules.specs.Size.{inRange, links, linkNumber}
 use Rattle.rules.specs.Pool.{Entry, Pool, none, countAt, valueAt, changedAt, registersAt, registerAt, logAt, withHeld, withSnoop, withLog, withHistory, withChanged, fresh}
 use Rattle.rules.specs.View.{times, oldIn, lookUp, viewValue}
-use Rattle.rules.specs.Reply.{Outcome}
+use Rattle.rules.specs.Reply.{value, Outcome}
 use Rattle.rules.specs.Worker.{makes, moves, drops, loads, added, stores}
 use Rattle.rules.specs.Collect.{phaseAfter, lastOf, stepped, opens, snoops, madeBy, takes, noEntry, entryHere, clears, heldBy, scans, falls, rises, counted, counts, passes, reclaimed, emptied, frees, closes, reclaim, reclaims}
 use Rattle.rules.specs.Outcome.{refused, does, outcome, after}
@@ -70,14 +71,24 @@ unfolding linkNumber
 is-link s a l g k e =
     λ j. le-leb (linkNumber s a 0 .0) l.0 (omega arith) j && lt-ltb l.0 (linkNumber s a (s .k) .0) (omega arith) j
 
+-- a refusal empties nothing
+refused-empties : (s : Sizes) (why : Refusal) (e : Event) (l : LinkNumber) → emptiedBy s e (Refused why) l ≡ false
+unfolding emptiedBy value
+refused-empties s why (Make w r) l = refl
+refused-empties s why (Move w r q) l = refl
+refused-empties s why (Drop w r) l = refl
+refused-empties s why (Load w r q f) l = refl
+refused-empties s why (Store w q f r) l = refl
+refused-empties s why Collect l = refl
+
 -- ---- every event
 
 module _ {s : Sizes} {p : Pool} (sound : Sound s p) (seen : LinkNumber → RecordNumber) (saw : (l : LinkNumber) → l .0 < links s → seen l ≡ seenIn p l) where
   -- what an outcome makes of it
-  abbrev Sees : Outcome → Type 0
-  Sees o =
+  abbrev Sees : Event → Outcome → Type 0
+  Sees e o =
       (l : LinkNumber) → l .0 < links s
-      → cond (cleared p (o .pool) l) (valueAt p l) (cond (emptiedBy s (o .answer) l) none (seen l)) ≡ seenIn (o .pool) l
+      → cond (cleared p (o .pool) l) (valueAt p l) (cond (emptiedBy s e (o .answer) l) none (seen l)) ≡ seenIn (o .pool) l
 
   -- a pool in which marks stay on and what was seen stays
   record Quiet (q : Pool) : Type 0 where
@@ -91,9 +102,9 @@ module _ {s : Sizes} {p : Pool} (sound : Sound s p) (seen : LinkNumber → Recor
       by-mark true h = ap not (h refl)
       by-mark false h = refl
 
-  quiet : (o : Outcome) → ((l : LinkNumber) → emptiedBy s (o .answer) l ≡ false) → Quiet (o .pool) → Sees o
-  quiet o answer q l h =
-      ap (λ b. cond b (valueAt p l) (cond (emptiedBy s (o .answer) l) none (seen l))) (not-cleared (o .pool) l (q .marks l))
+  quiet : (e : Event) (o : Outcome) → ((l : LinkNumber) → emptiedBy s e (o .answer) l ≡ false) → Quiet (o .pool) → Sees e o
+  quiet e o answer q l h =
+      ap (λ b. cond b (valueAt p l) (cond (emptiedBy s e (o .answer) l) none (seen l))) (not-cleared (o .pool) l (q .marks l))
       ∙ ap (λ b. cond b none (seen l)) (answer l) ∙ saw l h ∙ sym (q .same l h)
 
   unchanged : Quiet p
@@ -131,23 +142,23 @@ module _ {s : Sizes} {p : Pool} (sound : Sound s p) (seen : LinkNumber → Recor
   unfolding uncleared viewValue
   arrives-quiet q k i marks same = record { marks = marks; same = same }
 
-  opens-sees : p .collector .phase ≡ 0 → Sees (opens s p)
-  unfolding opens
-  opens-sees e = quiet (opens s p) (λ l. refl) (arrives-quiet p 1 0 (λ l h. h) (λ l h. sym (seen-in 0 e l)))
+  opens-sees : p .collector .phase ≡ 0 → Sees Collect (opens s p)
+  unfolding emptiedBy value opens
+  opens-sees e = quiet Collect (opens s p) (λ l. refl) (arrives-quiet p 1 0 (λ l h. h) (λ l h. sym (seen-in 0 e l)))
 
-  snoops-sees : p .collector .phase ≡ 1 → Sees (snoops s p)
-  unfolding snoops viewValue
+  snoops-sees : p .collector .phase ≡ 1 → Sees Collect (snoops s p)
+  unfolding emptiedBy value snoops viewValue
   snoops-sees e =
       let q : Pool = withSnoop here true p in
-      quiet (snoops s p) (λ l. refl)
+      quiet Collect (snoops s p) (λ l. refl)
       (onward-cases Quiet q (s .w) 1 2 e (after-snooping (p .history))
       (λ k. arrives-quiet q 1 (suc here) (λ l h. h) (λ l h. sym (seen-in 1 e l)))
       (λ k. arrives-quiet q 2 0 (λ l h. h) (λ l h. ap (λ xs. oldIn l xs (viewValue p l)) (empty-in sound 1 e tt) ∙ sym (seen-in 1 e l))))
 
-  takes-sees : p .collector .phase ≡ 2 → Sees (takes s p)
-  unfolding takes madeBy viewValue
+  takes-sees : p .collector .phase ≡ 2 → Sees Collect (takes s p)
+  unfolding emptiedBy value takes madeBy viewValue
   takes-sees e =
-      quiet (takes s p) (λ l. refl)
+      quiet Collect (takes s p) (λ l. refl)
       (onward-cases Quiet q (s .w) 2 (phaseAfter 2 (q .history)) e refl
       (λ k. arrives-quiet q 2 (suc here) (λ l h. h) same)
       (λ k.
@@ -161,11 +172,11 @@ module _ {s : Sizes} {p : Pool} (sound : Sound s p) (seen : LinkNumber → Recor
       same : (l : LinkNumber) → l .0 < links s → oldIn l (q .history) (viewValue q l) ≡ seenIn p l
       same l h = sym (counts-taken (core-in sound 2 e) here (position-in sound 2 e) l h) ∙ sym (seen-in 2 e l)
 
-  scans-sees : p .collector .phase ≡ 4 → Sees (scans s p)
-  unfolding scans viewValue
+  scans-sees : p .collector .phase ≡ 4 → Sees Collect (scans s p)
+  unfolding emptiedBy value scans viewValue
   scans-sees e =
       let q : Pool = withHeld (heldBy (registersAt p here) (p .records .held)) (withSnoop here false p) in
-      quiet (scans s p) (λ l. refl)
+      quiet Collect (scans s p) (λ l. refl)
       (onward-cases Quiet q (s .w) 4 (phaseAfter 4 (p .history)) e refl
       (λ k. arrives-quiet q 4 (suc here) (λ l h. h) (λ l h. sym (seen-in 4 e l)))
       (λ k.
@@ -173,19 +184,19 @@ module _ {s : Sizes} {p : Pool} (sound : Sound s p) (seen : LinkNumber → Recor
       (λ f. arrives-quiet q 6 0 (λ l h. h) (λ l h. sym (seen-in 4 e l)))
       (λ x xs f. arrives-quiet q 5 0 (λ l h. h) (λ l h. sym (seen-in 4 e l)))))
 
-  counts-sees : p .collector .phase ≡ 5 → Sees (counts s p)
-  unfolding counts counted falls rises viewValue
+  counts-sees : p .collector .phase ≡ 5 → Sees Collect (counts s p)
+  unfolding emptiedBy value counts counted falls rises viewValue
   counts-sees e =
       let n : ℕ = length (p .history) in
       let q : Pool = withHistory (cond (lastOf n p) [] (p .history)) (counted (entryHere p) p) in
-      quiet (counts s p) (λ l. refl)
+      quiet Collect (counts s p) (λ l. refl)
       (onward-cases Quiet q n 5 6 e (after-counting (q .history))
       (λ k. arrives-quiet q 5 (suc here) (λ l h. h) (λ l h. sym (seen-in 5 e l)))
       (λ k. arrives-quiet q 6 0 (λ l h. h) (λ l h. sym (seen-in 5 e l))))
 
   -- phase 3 sees the value of the link whose mark it clears
-  clears-sees : p .collector .phase ≡ 3 → Sees (clears s p)
-  unfolding clears uncleared viewValue
+  clears-sees : p .collector .phase ≡ 3 → Sees Collect (clears s p)
+  unfolding emptiedBy value clears uncleared viewValue
   clears-sees e =
       onward-cases (λ t. (l : LinkNumber) → l .0 < links s → cond (cleared p t l) (valueAt p l) (seen l) ≡ seenIn t l) q (length (p .history)) 3 4 e (after-clearing (p .history))
       (λ k. at-place 3 (suc here) refl)
@@ -210,7 +221,7 @@ module _ {s : Sizes} {p : Pool} (sound : Sound s p) (seen : LinkNumber → Recor
       behind = drop (suc here) (p .history)
 
       low : m .0 < links s
-      low = entry-below sound inside .link
+      low = entry-below sound (inl e) .link
 
       -- the mark was on, and goes off
       was-on : changedAt p m ≡ true
@@ -299,15 +310,15 @@ module _ {s : Sizes} {p : Pool} (sound : Sound s p) (seen : LinkNumber → Recor
             sym (ap (viewValue freed) (link-same l (linkNumber s y (g .0)) (g .2)) ∙ own-link (g .0) (g .1))
         by-link false f = saw l h ∙ seen-in 6 e l ∙ sym (other-link l (λ g k z. true≢false (sym (is-link s y l g k z) ∙ f)))
 
-  closes-sees : p .collector .phase ≡ 6 → Sees (stepped (closes p))
-  unfolding closes uncleared viewValue
-  closes-sees e = quiet (stepped (closes p)) (λ l. refl) (record { marks = λ l h. h; same = λ l h. sym (seen-in 6 e l) })
+  closes-sees : p .collector .phase ≡ 6 → Sees Collect (stepped (closes p))
+  unfolding emptiedBy value closes uncleared viewValue
+  closes-sees e = quiet Collect (stepped (closes p)) (λ l. refl) (record { marks = λ l h. h; same = λ l h. sym (seen-in 6 e l) })
 
-  reclaims-sees : p .collector .phase ≡ 6 → Sees (reclaims s p)
-  unfolding reclaims reclaim
+  reclaims-sees : p .collector .phase ≡ 6 → Sees Collect (reclaims s p)
+  unfolding emptiedBy value reclaims reclaim
   reclaims-sees e = by-number (reclaimed s p .0) refl (reclaimed-passes s p)
     where
-      by-number : (k : ℕ) → reclaimed s p .0 ≡ k → (reclaimed s p .0 ≡ 0) ⊎ ((passes s p (reclaimed s p) ≡ true) × (1 ≤ reclaimed s p .0) × (reclaimed s p .0 ≤ s .n)) → Sees (reclaim s p k)
+      by-number : (k : ℕ) → reclaimed s p .0 ≡ k → (reclaimed s p .0 ≡ 0) ⊎ ((passes s p (reclaimed s p) ≡ true) × (1 ≤ reclaimed s p .0) × (reclaimed s p .0 ≤ s .n)) → Sees Collect (reclaim s p k)
       by-number zero f x = closes-sees e
       by-number (suc i) f (inl z) = absurd (omega arith)
       by-number (suc i) f (inr x) =
@@ -317,26 +328,26 @@ module _ {s : Sizes} {p : Pool} (sound : Sound s p) (seen : LinkNumber → Recor
 
   -- ---- every event
 
-  stores-sees : (w q f r : ℕ) → w < s .w → linkNumber s (registerAt p w q) f .0 < links s → Sees (stores s w q f r p)
-  unfolding stores
-  stores-sees w q f r worker inside = quiet (stores s w q f r p) (λ l. refl) (stored-quiet w q f r worker inside)
+  stores-sees : (w q f r : ℕ) → w < s .w → linkNumber s (registerAt p w q) f .0 < links s → Sees (Store w q f r) (stores s w q f r p)
+  unfolding stores emptiedBy
+  stores-sees w q f r worker inside = quiet (Store w q f r) (stores s w q f r p) (λ l. refl) (stored-quiet w q f r worker inside)
 
-  refused-sees : (why : Refusal) → Sees (refused why p)
-  refused-sees why = quiet (refused why p) (λ l. refl) unchanged
+  refused-sees : (e : Event) (why : Refusal) → Sees e (refused why p)
+  refused-sees e why = quiet e (refused why p) (refused-empties s why e) unchanged
 
-  pub event-sees : (e : Event) → Sees (outcome s p e)
-  unfolding outcome does makes moves drops loads viewValue uncleared
-  event-sees (Make w r) = decided-outcome Sees p refused-sees _ _ (λ t. quiet (makes w r p) (λ l. refl) (record { marks = λ l h. h; same = λ l h. refl }))
-  event-sees (Move w r q) = decided-outcome Sees p refused-sees _ _ (λ t. quiet (moves w r q p) (λ l. refl) (record { marks = λ l h. h; same = λ l h. refl }))
-  event-sees (Drop w r) = decided-outcome Sees p refused-sees _ _ (λ t. quiet (drops w r p) (λ l. refl) (record { marks = λ l h. h; same = λ l h. refl }))
-  event-sees (Load w r q f) = decided-outcome Sees p refused-sees _ _ (λ t. quiet (loads s w r q f p) (λ l. refl) (record { marks = λ l h. h; same = λ l h. refl }))
+  pub event-sees : (e : Event) → Sees e (outcome s p e)
+  unfolding outcome does makes moves drops loads viewValue uncleared emptiedBy
+  event-sees (Make w r) = decided-outcome (Sees (Make w r)) p (refused-sees (Make w r)) _ _ (λ t. quiet (Make w r) (makes w r p) (λ l. refl) (record { marks = λ l h. h; same = λ l h. refl }))
+  event-sees (Move w r q) = decided-outcome (Sees (Move w r q)) p (refused-sees (Move w r q)) _ _ (λ t. quiet (Move w r q) (moves w r q p) (λ l. refl) (record { marks = λ l h. h; same = λ l h. refl }))
+  event-sees (Drop w r) = decided-outcome (Sees (Drop w r)) p (refused-sees (Drop w r)) _ _ (λ t. quiet (Drop w r) (drops w r p) (λ l. refl) (record { marks = λ l h. h; same = λ l h. refl }))
+  event-sees (Load w r q f) = decided-outcome (Sees (Load w r q f)) p (refused-sees (Load w r q f)) _ _ (λ t. quiet (Load w r q f) (loads s w r q f p) (λ l. refl) (record { marks = λ l h. h; same = λ l h. refl }))
   event-sees (Store w q f r) =
-      decided-outcome Sees p refused-sees _ _ (λ t.
+      decided-outcome (Sees (Store w q f r)) p (refused-sees (Store w q f r)) _ _ (λ t.
       let k = can-store s p w q f r t in
       stores-sees w q f r (k .0 .worker) (link-below sound w q f (k .2 .holds) (k .2 .link)))
   event-sees Collect =
-      decided-outcome Sees p refused-sees _ _ (λ t.
-      by-phase s p Sees (sound .phase) opens-sees snoops-sees takes-sees clears-sees scans-sees counts-sees reclaims-sees)
+      decided-outcome (Sees Collect) p (refused-sees Collect) _ _ (λ t.
+      by-phase s p (Sees Collect) (sound .phase) opens-sees snoops-sees takes-sees clears-sees scans-sees counts-sees reclaims-sees)
 
 -- ---- a run
 

@@ -2,8 +2,8 @@
 --     Invariant     the invariant of a run from fresh: what is named, held and kept
 --     Grow          what only grows keeps it
 --     Register, Relink     what the worker events change: a register, a link
---     Cycle         the steps of phases 0 to 5
---     Lost          phase 6: what it takes is named nowhere and kept by nothing
+--     Phases        the steps of phases 0 to 5
+--     Freeing       phase 6: what it takes is named nowhere and kept by nothing
 --     Run, Work     every collector step and every worker event keeps the invariant
 --     Hold          it holds at each place of a run
 --     Reached       what a worker can reach is never freed
@@ -19,8 +19,8 @@ pub mod Invariant
 pub mod Grow
 pub mod Register
 pub mod Relink
-pub mod Cycle
-pub mod Lost
+pub mod Phases
+pub mod Freeing
 pub mod Run
 pub mod Work
 pub mod Hold

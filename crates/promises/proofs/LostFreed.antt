@@ -20,6 +20,7 @@ use mathlib.Core.List.{List, [], _∷_}
 use native.Mathlib.Omega.{arith}
 use native.Mathlib.Nat.{eq-zero-or-pos}
 use borrow.Author.Tests.{ne-eqb, eqb-false}
+use lib.Dec.{eqb}
 use lib.ListN.{length, getD}
 use Rattle.rules.specs.declared.Sizes.{Sizes}
 use Rattle.rules.specs.declared.RecordNumber.{RecordNumber}
@@ -29,10 +30,10 @@ use Rattle.rules.specs.declared.Event.the-variants.{Make, Move, Drop, Load, Sto
 use Rattle.rules.specs.Size.{inRange, links, linkNumber}
 use Rattle.rules.specs.Pool.{Pool, none, ofRecord, fresh, countAt, makerAt, valueAt, changedAt, registerAt}
 use Rattle.rules.specs.View.{times, oldIn, allLogs, viewValue}
-use Rattle.rules.specs.Reply.{Outcome}
+use Rattle.rules.specs.Reply.{value, Outcome}
 use Rattle.rules.specs.Worker.{makes, moves, drops, loads, added, stores}
 use Rattle.rules.specs.Collect.{phaseAfter, onward, stepped, opens, snoops, madeBy, takes, clears, scans, falls, rises, counted, counts, passes, reclaimed, emptied, emptiedFrom, frees, closes, reclaim, reclaims, collects}
-use Rattle.rules.specs.Outcome.{sameRecord, refused, does, outcome, answers, after}
+use Rattle.rules.specs.Outcome.{answersFreed, refused, does, outcome, answers, after}
 use Rattle.rules.specs.Sound.{Each, Sound}
 use Rattle.laws.proofs.Tests.{bit-off}
 use Rattle.laws.proofs.Number.{record-same, link-same, link-inside, link-apart}
@@ -47,7 +48,7 @@ use Rattle.laws.proofs.Refusals.{LinkThere, decided-outcome, can-make, can-load
 use Rattle.laws.proofs.Phases.{by-phase, onward-cases, phase-goes-up}
 use Rattle.soundness.proofs.Core.{core-in}
 use Rattle.promises.specs.Reach.{holds, leads}
-use Rattle.promises.specs.Cycle.{Cycle, ToClose, closing, going-on, freedBy, freedAmong}
+use Rattle.promises.specs.Cycle.{Cycle, ToClose, closing, going-on, freedAmong}
 use Rattle.promises.specs.Lost.{Lost, LoopKeeps}
 use Rattle.promises.proofs.Hold.{Reached, reached-fresh, reached-event, run-holds}
 use Rattle.promises.proofs.Ready.{Ready, event-ready, fresh-ready}
@@ -63,9 +64,9 @@ module _ {s : Sizes} {p₀ p : Pool} {R : RecordNumber → Type 0} (sound : Soun
   freed = frees s y p
 
   abbrev Others : RecordNumber → Type 0
-  Others x = R x × (sameRecord y x ≡ false)
+  Others x = R x × (eqb (y .0) (x .0) ≡ false)
 
-  apart-from : (x : RecordNumber) → sameRecord y x ≡ false → x .0 ≡ y .0 → ⊥
+  apart-from : (x : RecordNumber) → eqb (y .0) (x .0) ≡ false → x .0 ≡ y .0 → ⊥
   apart-from x n e = eqb-false y.0 x.0 n (sym e)
 
   freed-value : (l : LinkNumber) → (valueAt freed l ≡ valueAt p l) ⊎ (valueAt freed l ≡ none)
@@ -194,71 +195,75 @@ unfolding frees emptied falls
 frees-collector s y p = emptied-keeps (λ q. q .collector) (λ l q. refl) s y 0 (s .k) p
 
 -- those that remain after an answer
-abbrev Since : (RecordNumber → Type 0) → Outcome → RecordNumber → Type 0
-Since R o x = R x × (freedBy x (o .answer) ≡ false)
+abbrev Since : (RecordNumber → Type 0) → Event → Outcome → RecordNumber → Type 0
+Since R e o x = R x × (answersFreed x e (o .answer) ≡ false)
 
 -- an answer that frees nothing takes nothing out
-narrowed : {s : Sizes} {p₀ q : Pool} {R T : RecordNumber → Type 0} {k i : ℕ} → ((x : RecordNumber) → T x) → Remains s p₀ q R k i → Remains s p₀ q (λ x. R x × T x) k i
+narrowed : {s : Sizes} {p₀ q : Pool} {R T : RecordNumber → Type 0} {k i : ℕ} → ((x : RecordNumber) → R x → T x) → Remains s p₀ q R k i → Remains s p₀ q (λ x. R x × T x) k i
 narrowed all h =
     record {
       left = λ x y. h .left x (y .0);
       holders =
           λ l x y e.
           let b = h .holders l x (y .0) e in
-          record { who = b .who; which = b .which; remains = (b .remains, all (b .who)); inside = b .inside; number = b .number };
+          record { who = b .who; which = b .which; remains = (b .remains, all (b .who) (b .remains)); inside = b .inside; number = b .number };
     }
 
 module _ {s : Sizes} {p₀ p : Pool} {R : RecordNumber → Type 0} (reached : Reached s p) (apart : Apart s p) (h : Remaining s p₀ R p) where
   -- what an outcome leaves, if it does not close the cycle
-  abbrev Goes-on : Outcome → Type 0
-  Goes-on o = (o .pool .collector .phase ≡ 0 → ⊥) → Remaining s p₀ (Since R o) (o .pool)
+  abbrev Goes-on : Event → Outcome → Type 0
+  Goes-on e o = (o .pool .collector .phase ≡ 0 → ⊥) → Remaining s p₀ (Since R e o) (o .pool)
+
+  -- a record that remains is not none, which a step that frees nothing answers
+  not-freed : (x : RecordNumber) → R x → eqb 0 (x .0) ≡ false
+  not-freed x y = ne-eqb 0 x.0 (λ z. let some = left-some (h .left x y) in omega arith)
 
   abbrev here : ℕ
   here = p .collector .position
 
-  reclaims-goes-on : p .collector .phase ≡ 6 → Goes-on (reclaims s p)
-  unfolding reclaims reclaim closes
+  reclaims-goes-on : p .collector .phase ≡ 6 → Goes-on Collect (reclaims s p)
+  unfolding reclaims reclaim closes answersFreed value
   reclaims-goes-on e = by-number (reclaimed s p .0) refl (reclaimed-passes s p)
     where
-      by-number : (k : ℕ) → reclaimed s p .0 ≡ k → (reclaimed s p .0 ≡ 0) ⊎ ((passes s p (reclaimed s p) ≡ true) × (1 ≤ reclaimed s p .0) × (reclaimed s p .0 ≤ s .n)) → Goes-on (reclaim s p k)
+      by-number : (k : ℕ) → reclaimed s p .0 ≡ k → (reclaimed s p .0 ≡ 0) ⊎ ((passes s p (reclaimed s p) ≡ true) × (1 ≤ reclaimed s p .0) × (reclaimed s p .0 ≤ s .n)) → Goes-on Collect (reclaim s p k)
       by-number zero f x = λ open-still. absurd (open-still refl)
       by-number (suc i) f (inl z) = absurd (omega arith)
       by-number (suc i) f (inr x) = λ open-still.
           let y : RecordNumber = record { 0 = suc i } in
-          subst (λ c. Remains s p₀ (frees s y p) (λ z. R z × (sameRecord y z ≡ false)) (c .phase) (c .position)) (sym (frees-collector s y p))
-          (subst (λ (k : ℕ). Remains s p₀ (frees s y p) (λ z. R z × (sameRecord y z ≡ false)) k here) (sym e)
+          subst (λ c. Remains s p₀ (frees s y p) (λ z. R z × (eqb (y .0) (z .0) ≡ false)) (c .phase) (c .position)) (sym (frees-collector s y p))
+          (subst (λ (k : ℕ). Remains s p₀ (frees s y p) (λ z. R z × (eqb (y .0) (z .0) ≡ false)) k here) (sym e)
           (frees-remains (reached .sound) (remains-in (reached .sound) h 6 e) y (omega arith) (omega (arith, x .2))))
 
-  stores-goes-on : (w q f r : ℕ) → LinkThere s p w q f → Goes-on (stores s w q f r p)
-  unfolding stores
+  stores-goes-on : (w q f r : ℕ) → LinkThere s p w q f → Goes-on (Store w q f r) (stores s w q f r p)
+  unfolding stores answersFreed
   stores-goes-on w q f r there open-still =
-      narrowed (λ x. refl)
+      narrowed (λ x y. refl)
       (subst (λ c. Remains s p₀ (stores s w q f r p .pool) R (c .phase) (c .position)) (sym (stores-collector s p w q f r)) (stores-remains h apart w q f r there))
 
-  pub event-remaining : (e : Event) → Goes-on (outcome s p e)
-  unfolding outcome does makes moves drops loads opens snoops takes clears scans counts
+  pub event-remaining : (e : Event) → Goes-on e (outcome s p e)
+  unfolding outcome does makes moves drops loads opens snoops takes clears scans counts answersFreed value
   event-remaining (Make w r) =
-      decided-outcome Goes-on p (λ why z. narrowed (λ x. refl) h) _ _ (λ t z. narrowed (λ x. refl) (makes-remains h (reached .state .named) w r (can-make s p w r t .1)))
+      decided-outcome (Goes-on (Make w r)) p (λ why z. narrowed (λ x y. refl) h) _ _ (λ t z. narrowed (λ x y. refl) (makes-remains h (reached .state .named) w r (can-make s p w r t .1)))
   event-remaining (Move w r q) =
-      decided-outcome Goes-on p (λ why z. narrowed (λ x. refl) h) _ _ (λ t z. narrowed (λ x. refl) (register-remains h w r (registerAt p w q) (λ some. holds q refl some)))
+      decided-outcome (Goes-on (Move w r q)) p (λ why z. narrowed (λ x y. refl) h) _ _ (λ t z. narrowed (λ x y. refl) (register-remains h w r (registerAt p w q) (λ some. holds q refl some)))
   event-remaining (Drop w r) =
-      decided-outcome Goes-on p (λ why z. narrowed (λ x. refl) h) _ _ (λ t z. narrowed (λ x. refl) (register-remains h w r none (λ some. absurd (omega arith))))
+      decided-outcome (Goes-on (Drop w r)) p (λ why z. narrowed (λ x y. refl) h) _ _ (λ t z. narrowed (λ x y. refl) (register-remains h w r none (λ some. absurd (omega arith))))
   event-remaining (Load w r q f) =
-      decided-outcome Goes-on p (λ why z. narrowed (λ x. refl) h) _ _ (λ t z.
+      decided-outcome (Goes-on (Load w r q f)) p (λ why z. narrowed (λ x y. refl) h) _ _ (λ t z.
       let there : LinkThere s p w q f = can-load s p w r q f t .2 in
-      narrowed (λ x. refl)
+      narrowed (λ x y. refl)
       (register-remains h w r (valueAt p (linkNumber s (registerAt p w q) f)) (λ some. leads f (holds q refl (there .holds)) (there .link) refl some)))
   event-remaining (Store w q f r) =
-      decided-outcome Goes-on p (λ why z. narrowed (λ x. refl) h) _ _ (λ t. stores-goes-on w q f r (can-store s p w q f r t .2))
+      decided-outcome (Goes-on (Store w q f r)) p (λ why z. narrowed (λ x y. refl) h) _ _ (λ t. stores-goes-on w q f r (can-store s p w q f r t .2))
   event-remaining Collect =
-      decided-outcome Goes-on p (λ why z. narrowed (λ x. refl) h) _ _ (λ t.
-      by-phase s p Goes-on (reached .sound .phase)
-      (λ e z. narrowed (λ x. refl) (opens-remaining (reached .sound) h e))
-      (λ e z. narrowed (λ x. refl) (snoops-remaining (reached .sound) h e))
-      (λ e z. narrowed (λ x. refl) (takes-remaining (reached .sound) h e))
-      (λ e z. narrowed (λ x. refl) (clears-remaining (reached .sound) h e))
-      (λ e z. narrowed (λ x. refl) (scans-remaining (reached .sound) h e))
-      (λ e z. narrowed (λ x. refl) (counts-remaining (reached .sound) h e))
+      decided-outcome (Goes-on Collect) p (λ why z. narrowed not-freed h) _ _ (λ t.
+      by-phase s p (Goes-on Collect) (reached .sound .phase)
+      (λ e z. narrowed not-freed (opens-remaining (reached .sound) h e))
+      (λ e z. narrowed not-freed (snoops-remaining (reached .sound) h e))
+      (λ e z. narrowed not-freed (takes-remaining (reached .sound) h e))
+      (λ e z. narrowed not-freed (clears-remaining (reached .sound) h e))
+      (λ e z. narrowed not-freed (scans-remaining (reached .sound) h e))
+      (λ e z. narrowed not-freed (counts-remaining (reached .sound) h e))
       reclaims-goes-on)
 
 -- ---- the close
@@ -317,7 +322,7 @@ or-else false c h = h refl
 pub freed-by-the-close : (s : Sizes) → inRange s ≡ true → (p₀ : Pool) → length (p₀ .records .used) ≡ s .n → (R : RecordNumber → Type 0) → ((a : RecordNumber) → R a → Lost s p₀ a)
     → (p : Pool) → Reached s p → Ready p → Apart s p → Remaining s p₀ R p
     → (events : List Event) → ToClose s p events
-    → (a : RecordNumber) → R a → (LoopKeeps s p₀ a → ⊥) → freedAmong a (answers s p events) ≡ true
+    → (a : RecordNumber) → R a → (LoopKeeps s p₀ a → ⊥) → freedAmong a events (answers s p events) ≡ true
 unfolding answers freedAmong
 freed-by-the-close s r p₀ n R lost p reached ready apart h events (closing {e = e} c) a y no-loop =
     let end : (p .collector .phase ≡ 6) × (reclaimed s p .0 ≡ 0) = closing-step s p (reached .sound .phase) (c .before) e (c .after) in
@@ -325,8 +330,8 @@ freed-by-the-close s r p₀ n R lost p reached ready apart h events (closing {e 
     (no-loop
     (loop-found s p₀ n R lost (λ b z. left-back (reached .sound) ready (end .0) (remains-in (reached .sound) h 6 (end .0)) (end .1) b z) (record { at = a; has = y })))
 freed-by-the-close s r p₀ n R lost p reached ready apart h events (going-on {e = e} {events = later} open-still rest) a y no-loop =
-    or-else (freedBy a (outcome s p e .answer)) (freedAmong a (answers s (outcome s p e .pool) later)) (λ f.
-    freed-by-the-close s r p₀ n (Since R (outcome s p e)) (λ b z. lost b (z .0)) (outcome s p e .pool)
+    or-else (answersFreed a e (outcome s p e .answer)) (freedAmong a later (answers s (outcome s p e .pool) later)) (λ f.
+    freed-by-the-close s r p₀ n (Since R e (outcome s p e)) (λ b z. lost b (z .0)) (outcome s p e .pool)
     (reached-event s r p reached e)
     (event-ready s p (reached .sound) (reached .state) ready e)
     (apart-event s p reached e apart)
@@ -347,7 +352,7 @@ ready-run s r p x ready (e ∷ events) =
 
 pub lost-freed : (s : Sizes) → inRange s ≡ true → (before : List Event) (e : Event) (during : List Event) → Cycle s (after s (fresh s) before) e during
     → (a : RecordNumber) → Lost s (after s (fresh s) before) a → (LoopKeeps s (after s (fresh s) before) a → ⊥)
-    → freedAmong a (answers s (after s (fresh s) before) (e ∷ during)) ≡ true
+    → freedAmong a (e ∷ during) (answers s (after s (fresh s) before) (e ∷ during)) ≡ true
 lost-freed s r before e during c a lost no-loop =
     let p : Pool = after s (fresh s) before in
     let reached : Reached s p = run-holds s r before in

@@ -1,5 +1,5 @@
 -- What the pool promises, over any events from a fresh pool, refused ones among them. Nothing is assumed of the events. The words are those of specs/ and of
--- `rules`.
+-- `rules`; what an event answers is read by the number and the value that `rules/specs/Reply.antt` gives its answer.
 --     reached-is-never-freed, reached-stays-used     what a worker can reach is never freed
 --     counts-at-a-close     at each close the counts are those of the values the collector last saw
 --     lost-is-freed         what was lost when a cycle opened, loops aside, is freed in that cycle
@@ -11,10 +11,9 @@ use mathlib.Core.List.{List, _∷_}
 use Rattle.rules.specs.declared.Sizes.{Sizes}
 use Rattle.rules.specs.declared.RecordNumber.{RecordNumber}
 use Rattle.rules.specs.declared.Event.{Event}
-use Rattle.rules.specs.declared.Answer.the-variants.{Freed}
 use Rattle.rules.specs.Size.{inRange, links}
 use Rattle.rules.specs.Pool.{none, usedAt, countAt, fresh}
-use Rattle.rules.specs.Outcome.{outcome, answers, after}
+use Rattle.rules.specs.Outcome.{outcome, answers, after, answersFreed}
 use Rattle.rules.specs.Sound.{tally}
 use Rattle.promises.specs.Reach.{Reaches}
 use Rattle.promises.specs.Cycle.{Closes, Cycle, freedAmong}
@@ -25,9 +24,9 @@ use Rattle.promises.proofs.Reached.{freed-unreached, reached-used-after
 use Rattle.promises.proofs.LostFreed.{lost-freed}
 use Rattle.promises.proofs.LastSeen.{event-sees, fresh-run-saw, counts-of-seen}
 
--- after any events, no event frees a record that a worker reaches
+-- after any events, no event answers that it frees a record that a worker reaches
 pub reached-is-never-freed : (s : Sizes) → inRange s ≡ true → (events : List Event) (e : Event) (a : RecordNumber)
-    → outcome s (after s (fresh s) events) e .answer ≡ Freed a
+    → answersFreed a e (outcome s (after s (fresh s) events) e .answer) ≡ true
     → (w : ℕ) → Reaches s (after s (fresh s) events) w a → ⊥
 reached-is-never-freed s r events e a =
     freed-unreached (run-holds s r events .sound) (run-holds s r events .state) e a
@@ -55,5 +54,5 @@ counts-at-a-close s r events e c =
 -- lost records contained or led to, is freed
 pub lost-is-freed : (s : Sizes) → inRange s ≡ true → (events : List Event) (e : Event) (during : List Event) → Cycle s (after s (fresh s) events) e during
     → (a : RecordNumber) → Lost s (after s (fresh s) events) a → (LoopKeeps s (after s (fresh s) events) a → ⊥)
-    → freedAmong a (answers s (after s (fresh s) events) (e ∷ during)) ≡ true
+    → freedAmong a (e ∷ during) (answers s (after s (fresh s) events) (e ∷ during)) ≡ true
 lost-is-freed = lost-freed

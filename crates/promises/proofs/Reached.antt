@@ -7,7 +7,7 @@
 -- since its maker's log was taken is a candidate only if it is held. The invariant (Invariant.antt) carries this through the cycle; Run and Work prove it kept.
 --     marked-inside      a link whose mark is on has a number below S
 --     reached-kept       in phase 6 what a worker reaches is kept
---     reached-used       what is reached is used
+--     reaches-some, reached-used     what is reached is a record, and is used
 --     collected-unreached, freed-unreached     a record that an event frees passed the search, so that nothing keeps it and no worker reaches it
 --     reached-used-after     so what is reached stays used
 -- Assumes nothing.
@@ -17,22 +17,21 @@ use mathlib.Core.Logic.{_⊎_, inl, inr, ⊎-elim}
 use mathlib.Core.Bool.{Bool, true, false, cond, true≢false}
 use mathlib.Core.List.{List, []}
 use native.Mathlib.Omega.{arith}
+use borrow.Author.Tests.{eqb-true}
+use lib.Dec.{eqb}
 use lib.ListN.{length, getD, List·getD-eq-default}
 use Rattle.rules.specs.declared.Sizes.{Sizes}
 use Rattle.rules.specs.declared.RecordNumber.{RecordNumber}
 use Rattle.rules.specs.declared.LinkNumber.{LinkNumber}
 use Rattle.rules.specs.declared.Event.{Event}
 use Rattle.rules.specs.declared.Event.the-variants.{Make, Move, Drop, Load, Store, Collect}
-use Rattle.rules.specs.declared.Answer.{Answer}
-use Rattle.rules.specs.declared.Answer.the-variants.{Fresh, Made, Moved, Dropped, Loaded, Stored, Stepped, Freed, Refused}
 use Rattle.rules.specs.Size.{links, linkNumber}
 use Rattle.rules.specs.Pool.{Pool, none, usedAt, changedAt, registersAt}
-use Rattle.rules.specs.Reply.{Outcome}
-use Rattle.rules.specs.Worker.{makes, moves, drops, loads, stores}
+use Rattle.rules.specs.Reply.{value, Outcome}
 use Rattle.rules.specs.Collect.{opens, snoops, takes, clears, scans, counts, passes, reclaimed, reclaim, reclaims, collects}
-use Rattle.rules.specs.Outcome.{sameRecord, usedAfter, does, outcome}
+use Rattle.rules.specs.Outcome.{answersMade, answersFreed, usedAfter, does, outcome}
 use Rattle.rules.specs.Sound.{Sound}
-use Rattle.laws.proofs.Tests.{eqb-cases, below-or-not}
+use Rattle.laws.proofs.Tests.{below-or-not}
 use Rattle.laws.proofs.Number.{record-same}
 use Rattle.laws.proofs.LookUp.{view-unmarked}
 use Rattle.laws.proofs.Search.{passed, reclaimed-passes}
@@ -41,23 +40,12 @@ use Rattle.laws.proofs.Phases.{by-phase}
 use Rattle.soundness.proofs.Used.{used-event}
 use Rattle.promises.specs.Reach.{Reaches, holds, leads}
 use Rattle.promises.proofs.Invariant.{Used, Kept, by-view, Named}
-use Rattle.promises.proofs.Lost.{unkept}
-use Rattle.promises.proofs.Run.{State, phased-in, taken-lost}
+use Rattle.promises.proofs.Freeing.{unkept}
+use Rattle.promises.proofs.Run.{State, phased-in, taken-unnamed}
 
--- an answer that frees is no other one
-abbrev frees? : Answer → Type 0
-frees? Fresh = ⊥
-frees? (Made a) = ⊥
-frees? (Moved a) = ⊥
-frees? Dropped = ⊥
-frees? (Loaded a) = ⊥
-frees? (Stored a) = ⊥
-frees? Stepped = ⊥
-frees? (Freed a) = Unit {0}
-frees? (Refused why) = ⊥
-
-told-apart : {x : Answer} {a : RecordNumber} → x ≡ Freed a → frees? x
-told-apart e = subst frees? (sym e) tt
+pub reaches-some : {s : Sizes} {p : Pool} {w : ℕ} {a : RecordNumber} → Reaches s p w a → 1 ≤ a .0
+reaches-some (holds r e some) = some
+reaches-some (leads f x k e some) = some
 
 pub reached-used : {s : Sizes} {p : Pool} → Named s p → {v : ℕ} {a : RecordNumber} → Reaches s p v a → usedAt p a ≡ true
 reached-used {s} {p} n {v} (holds r e some) = subst (Used p) e (n .registers v r) some
@@ -90,63 +78,52 @@ module _ {s : Sizes} {p : Pool} (sound : Sound s p) (state : State s p) where
           subst (Kept s p) h (phased-in sound state 6 e .marked (omega arith) l (marked-inside l on) on (subst (λ (c : RecordNumber). 1 ≤ c .0) (sym h) some))
       by-mark-of y false off = by-view f y k (view-unmarked p l off ∙ h) some
 
-  abbrev Unreached : RecordNumber → Outcome → Type 0
-  Unreached a o = o .answer ≡ Freed a → (w : ℕ) → Reaches s p w a → ⊥
+  abbrev Unreached : RecordNumber → Event → Outcome → Type 0
+  Unreached a e o = answersFreed a e (o .answer) ≡ true → (w : ℕ) → Reaches s p w a → ⊥
 
   -- only the step of phase 6 frees, and what it frees passed the search
-  collected-unreached : (a : RecordNumber) → collects s p .answer ≡ Freed a → (w : ℕ) → Reaches s p w a → ⊥
-  unfolding opens snoops takes clears scans counts reclaims reclaim
+  collected-unreached : (a : RecordNumber) → Unreached a Collect (collects s p)
+  unfolding opens snoops takes clears scans counts reclaims reclaim answersFreed value
   collected-unreached a =
-      by-phase s p (Unreached a) (sound .phase)
+      by-phase s p (Unreached a Collect) (sound .phase)
       (λ e. stepped) (λ e. stepped) (λ e. stepped) (λ e. stepped) (λ e. stepped) (λ e. stepped)
       (λ e. by-number e (reclaimed s p .0) refl (reclaimed-passes s p))
     where
-      stepped : Stepped ≡ Freed a → (w : ℕ) → Reaches s p w a → ⊥
-      stepped z w x = told-apart z
+      stepped : eqb 0 (a .0) ≡ true → (w : ℕ) → Reaches s p w a → ⊥
+      stepped z w x = let some = reaches-some x in let e = eqb-true 0 a.0 z in omega arith
 
       found : RecordNumber
       found = reclaimed s p
 
       by-number : p .collector .phase ≡ 6 → (k : ℕ) → found .0 ≡ k → (found .0 ≡ 0) ⊎ ((passes s p found ≡ true) × (1 ≤ found .0) × (found .0 ≤ s .n))
-          → reclaim s p k .answer ≡ Freed a → (w : ℕ) → Reaches s p w a → ⊥
-      by-number e zero f pass z = stepped z
-      by-number e (suc i) f (inl none-found) z = λ w x. omega arith
-      by-number e (suc i) f (inr pass) z = λ w x.
-          let same : record { 0 = suc i } ≡ a = cc in
-          let is-found : found ≡ a = record-same found (record { 0 = suc i }) f ∙ same in
-          unkept (taken-lost sound state e found (pass .1) (pass .2) (passed s p found (pass .0)) .unkept)
+          → Unreached a Collect (reclaim s p k)
+      by-number e zero f pass = stepped
+      by-number e (suc i) f (inl none-found) = λ z w x. omega arith
+      by-number e (suc i) f (inr pass) = λ z w x.
+          let is-found : found ≡ a = record-same found a (f ∙ eqb-true (suc i) a.0 z) in
+          unkept (taken-unnamed sound state e found (pass .1) (pass .2) (passed s p found (pass .0)) .unkept)
           (subst (Kept s p) (sym is-found) (reached-kept e w x))
 
   -- no other event frees
-  pub freed-unreached : (e : Event) (a : RecordNumber) → outcome s p e .answer ≡ Freed a → (w : ℕ) → Reaches s p w a → ⊥
-  unfolding outcome does makes moves drops loads stores
-  freed-unreached (Make v r) a = decided-outcome (Unreached a) p (λ why z w x. told-apart z) _ _ (λ t z w x. told-apart z)
-  freed-unreached (Move v r q) a = decided-outcome (Unreached a) p (λ why z w x. told-apart z) _ _ (λ t z w x. told-apart z)
-  freed-unreached (Drop v r) a = decided-outcome (Unreached a) p (λ why z w x. told-apart z) _ _ (λ t z w x. told-apart z)
-  freed-unreached (Load v r q f) a = decided-outcome (Unreached a) p (λ why z w x. told-apart z) _ _ (λ t z w x. told-apart z)
-  freed-unreached (Store v q f r) a = decided-outcome (Unreached a) p (λ why z w x. told-apart z) _ _ (λ t z w x. told-apart z)
-  freed-unreached Collect a = decided-outcome (Unreached a) p (λ why z w x. told-apart z) _ _ (λ t. collected-unreached a)
+  pub freed-unreached : (e : Event) (a : RecordNumber) → Unreached a e (outcome s p e)
+  unfolding outcome does answersFreed value
+  freed-unreached (Make v r) a = λ z w x. true≢false (sym z)
+  freed-unreached (Move v r q) a = λ z w x. true≢false (sym z)
+  freed-unreached (Drop v r) a = λ z w x. true≢false (sym z)
+  freed-unreached (Load v r q f) a = λ z w x. true≢false (sym z)
+  freed-unreached (Store v q f r) a = λ z w x. true≢false (sym z)
+  freed-unreached Collect a =
+      decided-outcome (Unreached a Collect) p (λ why z w x. let some = reaches-some x in let e = eqb-true 0 a.0 z in omega arith) _ _ (λ t. collected-unreached a)
 
 -- so what is reached stays used
-used-after : (a : RecordNumber) (x : Answer) → (x ≡ Freed a → ⊥) → usedAfter a true x ≡ true
-unfolding usedAfter
-used-after a Fresh n = refl
-used-after a (Made b) n = by-test (sameRecord b a)
-  where
-    by-test : (t : Bool) → cond t true true ≡ true
-    by-test true = refl
-    by-test false = refl
-used-after a (Moved b) n = refl
-used-after a Dropped n = refl
-used-after a (Loaded b) n = refl
-used-after a (Stored b) n = refl
-used-after a Stepped n = refl
-used-after a (Freed b) n =
-    ⊎-elim (λ e. absurd (n (ap Freed (record-same b a (e .0))))) (λ e. ap (λ t. cond t false true) (e .1)) (eqb-cases b.0 a.0)
-used-after a (Refused why) n = refl
-
 pub reached-used-after : {s : Sizes} {p : Pool} → Sound s p → State s p → (e : Event) (a : RecordNumber) (w : ℕ) → Reaches s p w a → usedAt (outcome s p e .pool) a ≡ true
+unfolding usedAfter
 reached-used-after {s} {p} sound state e a w x =
-    used-event s p sound a e
-    ∙ ap (λ before. usedAfter a before (outcome s p e .answer)) (reached-used (state .named) x)
-    ∙ used-after a (outcome s p e .answer) (λ z. freed-unreached sound state e a z w x)
+    used-event s p sound a (reaches-some x) e
+    ∙ ap (λ before. usedAfter a before e (outcome s p e .answer)) (reached-used (state .named) x)
+    ∙ by-answer (answersMade a e (outcome s p e .answer)) (answersFreed a e (outcome s p e .answer)) (λ z. freed-unreached sound state e a z w x)
+  where
+    by-answer : (made freed : Bool) → (freed ≡ true → ⊥) → cond made true (cond freed false true) ≡ true
+    by-answer true freed n = refl
+    by-answer false true n = absurd (n refl)
+    by-answer false false n = refl

@@ -31,7 +31,7 @@ use Rattle.laws.proofs.Marks.{on-some, made-other, made-candidate, made-candida
 use Rattle.laws.proofs.Search.{Passed, passed, reclaimed-passes}
 use Rattle.laws.proofs.Refusals.{decided, can-make, can-store}
 use Rattle.laws.proofs.Phases.{by-phase, moved, onward-cases, after-snooping, after-taking, after-clearing, after-scanning, after-counting}
-use Rattle.soundness.proofs.Core.{Core, core-in, position-in}
+use Rattle.soundness.proofs.Core.{Core, core-in}
 use Rattle.soundness.proofs.Count.{core-emptied}
 use Rattle.soundness.proofs.Fresh.{ofRecord-all}
 use Rattle.soundness.proofs.Known.{entry-below}
@@ -157,7 +157,7 @@ module _ {s : Sizes} {p : Pool} (sound : Sound s p) (ready : Ready p) where
       counted-waits : Waiting q
       counted-waits =
           waiting-rises (viewValue (falls old p) (entryHere p .link)) (falls old p)
-          (waiting-falls old p (let low = entry-below sound (position-in sound 5 e) .old in omega (arith, sound .shaped .records .candidate)) waits)
+          (waiting-falls old p (let low = entry-below sound (inr e) .old in omega (arith, sound .shaped .records .candidate)) waits)
 
   closes-ready : Ready (closes p)
   unfolding closes

@@ -34,8 +34,8 @@ use Rattle.soundness.proofs.Reclaim.{core-emptied-from}
 use Rattle.soundness.proofs.Known.{entry-below}
 use Rattle.promises.proofs.Invariant.{Used, Named, Phased}
 use Rattle.promises.proofs.Grow.{named-raised, phased-raised}
-use Rattle.promises.proofs.Cycle.{phased-none, phased-opened, snooped-flags, named-taken, logs-taken, phased-taken, marked-kept, named-cleared, phased-cleared, scanned-flags, phased-scanned, named-counted, phased-counted}
-use Rattle.promises.proofs.Lost.{Lost, passed-lost, Emptied, emptied-through, named-freed, phased-freed, named-closed}
+use Rattle.promises.proofs.Phases.{phased-none, phased-opened, snooped-flags, named-taken, logs-taken, phased-taken, marked-kept, named-cleared, phased-cleared, scanned-flags, phased-scanned, named-counted, phased-counted}
+use Rattle.promises.proofs.Freeing.{Unnamed, passed-unnamed, Emptied, emptied-through, named-freed, phased-freed, named-closed}
 
 pub record State (s : Sizes) (p : Pool) : Type 0 where
   pub named : Named s p
@@ -132,7 +132,7 @@ module _ {s : Sizes} {p : Pool} (sound : Sound s p) (state : State s p) where
       c = core-in sound 3 e
 
       inside : m .0 < links s
-      inside = entry-below sound (position-in sound 3 e) .link
+      inside = entry-below sound (inl e) .link
 
       x : Phased s p 3 here
       x = phased-in 3 e
@@ -211,13 +211,13 @@ module _ {s : Sizes} {p : Pool} (sound : Sound s p) (state : State s p) where
           (phased-counted s p entry (p .history) same 5 (suc here) (omega arith) (omega arith) (omega arith) (λ v h. refl) at-entry x))
           (λ k. absurd (omega arith))
 
-  -- what phase 6 takes is lost, and its links are emptied
+  -- what phase 6 takes is unnamed, and its links are emptied
   module _ (e : p .collector .phase ≡ 6) where
     core-6 : Core s p [] []
     core-6 = core-in sound 6 e
 
-    pub taken-lost : (y : RecordNumber) → 1 ≤ y .0 → y .0 ≤ s .n → Passed s p y → Lost s p y
-    taken-lost y some low pass = passed-lost core-6 (phased-in 6 e) (empty-in sound 6 e tt) y some low pass
+    pub taken-unnamed : (y : RecordNumber) → 1 ≤ y .0 → y .0 ≤ s .n → Passed s p y → Unnamed s p y
+    taken-unnamed y some low pass = passed-unnamed core-6 (phased-in 6 e) (empty-in sound 6 e tt) y some low pass
 
     frees-kept : (y : RecordNumber) → 1 ≤ y .0 → y .0 ≤ s .n → Passed s p y → State s (frees s y p)
     unfolding frees emptied falls
@@ -233,7 +233,7 @@ module _ {s : Sizes} {p : Pool} (sound : Sound s p) (state : State s p) where
         all : Emptied s y here q
         all =
             emptied-through s y here 0 (s .k) p some low (omega arith)
-            (record { named = state .named; phased = phased-in 6 e; lost = taken-lost y some low pass })
+            (record { named = state .named; phased = phased-in 6 e; unnamed = taken-unnamed y some low pass })
 
         none-left : (f : ℕ) → f < s .k → valueAt q (linkNumber s y f) ≡ none
         none-left f k =

@@ -2,7 +2,7 @@
 --     Opens, Closes     an event opens a cycle, closes one
 --     ToClose           events that go on until the cycle closes, with the last of them
 --     Cycle             a whole cycle: the event that opens it, and those up to the one that closes it
---     freedAmong        a record is freed by one of some answers
+--     freedAmong        a record is freed by one of some events, by their answers
 -- Assumes nothing.
 use mathlib.Core.Path.{_≡_}
 use mathlib.Core.Bool.{Bool, false, _||_}
@@ -11,9 +11,8 @@ use Rattle.rules.specs.declared.Sizes.{Sizes}
 use Rattle.rules.specs.declared.RecordNumber.{RecordNumber}
 use Rattle.rules.specs.declared.Event.{Event}
 use Rattle.rules.specs.declared.Answer.{Answer}
-use Rattle.rules.specs.declared.Answer.the-variants.{Fresh, Made, Moved, Dropped, Loaded, Stored, Stepped, Freed, Refused}
 use Rattle.rules.specs.Pool.{Pool}
-use Rattle.rules.specs.Outcome.{outcome, sameRecord}
+use Rattle.rules.specs.Outcome.{outcome, answersFreed}
 
 -- "A cycle opens with the step out of phase 0"
 pub record Opens (s : Sizes) (p : Pool) (e : Event) : Type 0 where
@@ -33,18 +32,8 @@ pub record Cycle (s : Sizes) (p : Pool) (e : Event) (events : List Event) : Type
   pub opens : Opens s p e
   pub to-close : ToClose s (outcome s p e .pool) events
 
--- an answer frees a record
-abbrev pub freedBy : RecordNumber → Answer → Bool
-freedBy a Fresh = false
-freedBy a (Made b) = false
-freedBy a (Moved b) = false
-freedBy a Dropped = false
-freedBy a (Loaded b) = false
-freedBy a (Stored b) = false
-freedBy a Stepped = false
-freedBy a (Freed b) = sameRecord b a
-freedBy a (Refused why) = false
-
-unfoldable pub freedAmong : RecordNumber → List Answer → Bool
-freedAmong a [] = false
-freedAmong a (x ∷ answers) = freedBy a x || freedAmong a answers
+-- one of some events answers that the record is freed
+unfoldable pub freedAmong : RecordNumber → List Event → List Answer → Bool
+freedAmong a [] answers = false
+freedAmong a (e ∷ events) [] = false
+freedAmong a (e ∷ events) (x ∷ answers) = answersFreed a e x || freedAmong a events answers

@@ -4,7 +4,7 @@
 --     outcome                     from sizes, pool and event to answer and pool
 --     start                       a pool made fresh by its sizes
 --     answers, after              a run from a pool: its answers, and the pool at its end
---     usedAfter, inUse            the records that are used, by the answers of a run alone
+--     answersMade, answersFreed, usedAfter, inUse     the records made, freed and used, by the answers' numbers and values
 --     freeRecords                 how many records are free
 -- Refusal 1 for a lent table's length, and 2, belong to the call on lent tables, which asks for them before it does what `outcome` says. Assumes nothing.
 use Prim.Native.Nat.{ℕ, zero, suc}
@@ -19,10 +19,10 @@ use Rattle.rules.specs.declared.Event.the-variants.{Make, Move, Drop, Lo
 use Rattle.rules.specs.declared.Refusal.{Refusal}
 use Rattle.rules.specs.declared.Refusal.the-variants.{WrongSize, NoSuch, HoldsNone, NoneFree, LogFull}
 use Rattle.rules.specs.declared.Answer.{Answer}
-use Rattle.rules.specs.declared.Answer.the-variants.{Fresh, Made, Moved, Dropped, Loaded, Stored, Stepped, Freed, Refused}
+use Rattle.rules.specs.declared.Answer.the-variants.{Fresh, Refused}
 use Rattle.rules.specs.Size.{inRange, links, linkNumber}
 use Rattle.rules.specs.Pool.{Pool, registerAt, logAt, fresh}
-use Rattle.rules.specs.Reply.{Outcome}
+use Rattle.rules.specs.Reply.{number, value, Outcome}
 use Rattle.rules.specs.Worker.{chosen, mustLog, makes, moves, drops, loads, stores}
 use Rattle.rules.specs.Collect.{collects}
 
@@ -107,26 +107,33 @@ unfoldable pub after : Sizes → Pool → List Event → Pool
 after s p [] = p
 after s p (e ∷ events) = after s (outcome s p e .pool) events
 
--- whether a record is used after an answer: a make uses the record that it answers, and a collector step frees the one that it answers. No event answers
--- `Fresh`
-abbrev pub sameRecord : RecordNumber → RecordNumber → Bool
-sameRecord b a = eqb (b .0) (a .0)
+-- a make that is answered with 0, by this record
+unfoldable pub answersMade : RecordNumber → Event → Answer → Bool
+answersMade a (Make w r) x = eqb (number x) 0 && eqb (value x) (a .0)
+answersMade a (Move w r q) x = false
+answersMade a (Drop w r) x = false
+answersMade a (Load w r q f) x = false
+answersMade a (Store w q f r) x = false
+answersMade a Collect x = false
 
-unfoldable pub usedAfter : RecordNumber → Bool → Answer → Bool
-usedAfter a before Fresh = before
-usedAfter a before (Made b) = cond (sameRecord b a) true before
-usedAfter a before (Moved b) = before
-usedAfter a before Dropped = before
-usedAfter a before (Loaded b) = before
-usedAfter a before (Stored b) = before
-usedAfter a before Stepped = before
-usedAfter a before (Freed b) = cond (sameRecord b a) false before
-usedAfter a before (Refused why) = before
+-- a collect event that answers this record: "the answer is the record freed, otherwise 0"
+unfoldable pub answersFreed : RecordNumber → Event → Answer → Bool
+answersFreed a (Make w r) x = false
+answersFreed a (Move w r q) x = false
+answersFreed a (Drop w r) x = false
+answersFreed a (Load w r q f) x = false
+answersFreed a (Store w q f r) x = false
+answersFreed a Collect x = eqb (value x) (a .0)
 
--- "the makes answered with 0 less the records freed"
-unfoldable pub inUse : RecordNumber → Bool → List Answer → Bool
-inUse a before [] = before
-inUse a before (x ∷ rest) = inUse a (usedAfter a before x) rest
+-- whether a record is used after an event, by its answer
+unfoldable pub usedAfter : RecordNumber → Bool → Event → Answer → Bool
+usedAfter a before e x = cond (answersMade a e x) true (cond (answersFreed a e x) false before)
+
+-- "the makes answered with 0 less the records freed", of events and their answers
+unfoldable pub inUse : RecordNumber → Bool → List Event → List Answer → Bool
+inUse a before [] rest = before
+inUse a before (e ∷ events) [] = before
+inUse a before (e ∷ events) (x ∷ rest) = inUse a (usedAfter a before e x) events rest
 
 -- "how many records are free"
 unfoldable pub freeMarks : List Bool → ℕ

@@ -21,6 +21,6 @@ inRange s = between 1 1024 (s .n) && between 1 8 (s .k) && between 1 8 (s .w) &&
 unfoldable pub links : Sizes → ℕ
 links s = s .n * s .k
 
--- "Link f of record a has the number (a-1) x K + f."
+-- "Link f of record a has the number (a-1) x K + f." None has no link: whoever asks for one has tested for none first, since 0 - 1 is 0 here
 unfoldable pub linkNumber : Sizes → RecordNumber → ℕ → LinkNumber
 linkNumber s a f = record { 0 = (a .0 - 1) * s .k + f }

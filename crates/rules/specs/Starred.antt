@@ -43,9 +43,12 @@ pub record Row : Type 0 where
 abbrev pub sizesOf : ℕ → ℕ → ℕ → ℕ → Sizes
 sizesOf n k w r = record { n = n; k = k; w = w; r = r }
 
--- a row about the sizes alone
-abbrev pub onlySizes : ℕ → ℕ → ℕ → Row
-onlySizes n k number = record { sizes = sizesOf n k 1 1; taken = number; events = []; replies = []; seen = [] }
+-- rows about the sizes alone: sizes that are taken make the pool fresh, and sizes that are refused leave it as it was, with record 1 used and its link marked
+abbrev pub takenSizes : ℕ → ℕ → Row
+takenSizes n k = record { sizes = sizesOf n k 1 1; taken = 0; events = []; replies = []; seen = used 1 false ∷ changed 0 false ∷ end n 0 ∷ [] }
+
+abbrev pub refusedSizes : ℕ → ℕ → Row
+refusedSizes n k = record { sizes = sizesOf n k 1 1; taken = 1; events = []; replies = []; seen = used 1 true ∷ changed 0 true ∷ [] }
 
 abbrev pub row : Sizes → List Event → List (ℕ × ℕ) → List Seen → Row
 row s events replies seen = record { sizes = s; taken = 0; events = events; replies = replies; seen = seen }
@@ -75,11 +78,11 @@ makesAll n = row (sizesOf n 1 1 1) (replicate (suc n) (Make 0 0)) (doneFrom 1 n 
 unfoldable pub runs : List Row
 runs =
     -- "N = 1024 taken, 1025 and 0 refused 1; K = 8 taken, 9 refused."
-    onlySizes 1024 1 0
-    ∷ onlySizes 1025 1 1
-    ∷ onlySizes 0 1 1
-    ∷ onlySizes 1 8 0
-    ∷ onlySizes 1 9 1
+    takenSizes 1024 1
+    ∷ refusedSizes 1025 1
+    ∷ refusedSizes 0 1
+    ∷ takenSizes 1 8
+    ∷ refusedSizes 1 9
     -- "The listing above": the whole case of "The trace file"
     ∷ row (sizesOf 2 1 1 1)
     (Make 0 0 ∷ Drop 0 0 ∷ steps 6 ++ (Make 0 0 ∷ []))
@@ -126,7 +129,7 @@ runs =
     (Make 0 0 ∷ steps 3 ++ (Store 0 0 0 1 ∷ Drop 0 0 ∷ steps 10))
     (done 1 ∷ nothing 3 ++ (done 0 ∷ done 0 ∷ nothing 8 ++ (done 1 ∷ done 0 ∷ [])))
     (end 1 2 ∷ [])
-    -- "A record linked to itself and dropped stays used." Two cycles, of eight and of five steps
+    -- "A record linked to itself and dropped stays used." Two cycles, of seven and of five steps
     ∷ row (sizesOf 1 1 1 1)
     (Make 0 0 ∷ Store 0 0 0 0 ∷ Drop 0 0 ∷ steps 12)
     (done 1 ∷ done 0 ∷ done 0 ∷ nothing 12)
@@ -179,11 +182,16 @@ unfoldable pub seesAll : Pool → List Seen → Bool
 seesAll p [] = true
 seesAll p (x ∷ xs) = sees p x && seesAll p xs
 
--- the sizes are answered as the row says; where they are taken, so is every event, and what the row says is seen at the end
+-- the pool before the sizes: not a fresh one
+unfoldable pub another : Pool
+another = after (sizesOf 1 1 1 1) (fresh (sizesOf 1 1 1 1)) (Make 0 0 ∷ Store 0 0 0 0 ∷ Collect ∷ [])
+
+-- the sizes are answered as the row says, so is every event, and what the row says is seen at the end
 unfoldable pub holds : Row → Bool
 holds r =
     let s = r .sizes in
-    let p = fresh s in
-    eqb (number (start s p .answer)) (r .taken)
+    let o = start s another in
+    let p = o .pool in
+    eqb (number (o .answer)) (r .taken)
     && samePairs (map reply (answers s p (r .events))) (r .replies)
     && seesAll (after s p (r .events)) (r .seen)

@@ -76,7 +76,7 @@ pub enum Answer {
     Stepped,
     // collect: the record freed.
     Freed(RecordNumber),
-    // The call changed nothing.
+    // What was asked for is not done, and the refusal says why.
     Refused(Refusal),
 }
 

@@ -1,7 +1,7 @@
 -- What the code rests on: facts of every sound pool, each a law of its own.
---     record-inside       a record number that is not none is within the tables
+--     register-inside, value-inside     a record number that is not none is within the tables
 --     link-below          a link of the record in a register has a number below S
---     entry-below         so has the link of the history entry at the position
+--     entry-there, entry-below     phases 3 and 5: the position has a history entry, whose numbers are in range
 --     count-most          no count passes S
 --     old-has-count       phase 5: the count that falls is not 0
 --     value-has-count     phase 6: nor is any that falls while a record is freed
@@ -11,6 +11,7 @@
 -- Assumes nothing.
 use Prim.Native.Nat.{ℕ, _+_, _-_, _≤_, _<_}
 use mathlib.Core.Path.{_≡_, refl, ap, _∙_}
+use mathlib.Core.Logic.{_⊎_, inl, inr}
 use mathlib.Core.Bool.{Bool, true, false}
 use mathlib.Core.List.{List, []}
 use native.Mathlib.Omega.{arith}
@@ -22,11 +23,11 @@ use Rattle.rules.specs.declared.LinkNumber.{LinkNumber}
 use Rattle.rules.specs.Size.{links, linkNumber}
 use Rattle.rules.specs.Pool.{Pool, countAt, valueAt, changedAt, registerAt, logAt}
 use Rattle.rules.specs.View.{bit, times, allLogs}
-use Rattle.rules.specs.Collect.{noEntry, entryHere, falls, emptied, emptiedFrom}
+use Rattle.rules.specs.Collect.{noEntry, entryHere, falls, passes, emptied, emptiedFrom}
 use Rattle.rules.specs.Sound.{Sound, EntryInRange, countsFor}
 use Rattle.laws.proofs.Number.{link-inside}
 use Rattle.laws.proofs.Change.{emptied-keeps}
-use Rattle.laws.proofs.Search.{Passed}
+use Rattle.laws.proofs.Search.{Passed, passed}
 use Rattle.laws.proofs.Lists.{length-flatten, Each-at}
 use Rattle.laws.proofs.Tally.{tally-most}
 use Rattle.laws.proofs.Room.{room-left}
@@ -36,27 +37,31 @@ use Rattle.soundness.proofs.Count.{old-counted, value-counted}
 use Rattle.soundness.proofs.Reclaim.{core-emptied-from}
 
 module _ {s : Sizes} {p : Pool} (h : Sound s p) where
-  -- registers, links and entries hold record numbers 0..N (`registers`, `values`, `logs` and `history` of `Sound`); one that is not none has its place
-  -- in every table of the records, each of which has N
-  pub record-inside : (a : RecordNumber) → a .0 ≤ s .n → 1 ≤ a .0 → (a .0 - 1 < length (p .records .used)) × (a .0 - 1 < length (p .records .count)) × (a .0 - 1 < length (p .records .held)) × (a .0 - 1 < length (p .records .candidate)) × (a .0 - 1 < length (p .records .maker))
-  record-inside a low some =
-      let r = h .shaped .records in
-      (omega (arith, r .used), omega (arith, r .count), omega (arith, r .held), omega (arith, r .candidate), omega (arith, r .maker))
+  -- a record number that is not none stands at its place less one in every table of the records, each of which has N
+  pub register-inside : (w r : ℕ) → 1 ≤ registerAt p w r .0 → registerAt p w r .0 - 1 < s .n
+  register-inside w r some = omega (arith, h .registers w r)
+
+  pub value-inside : (l : LinkNumber) → 1 ≤ valueAt p l .0 → valueAt p l .0 - 1 < s .n
+  value-inside l some = omega (arith, h .values l)
 
   pub link-below : (w q f : ℕ) → 1 ≤ registerAt p w q .0 → f < s .k → linkNumber s (registerAt p w q) f .0 < links s
   link-below w q f some k = link-inside s (registerAt p w q) f some (h .registers w q) k
 
-  pub entry-below : p .collector .position < length (p .history) → EntryInRange s (entryHere p)
-  entry-below k = Each-at (EntryInRange s) (p .history) (p .collector .position) noEntry k (h .history)
+  -- in phases 3 and 5 the position is one of the history's
+  pub entry-there : (p .collector .phase ≡ 3) ⊎ (p .collector .phase ≡ 5) → p .collector .position < length (p .history)
+  entry-there (inl e) = position-in h 3 e
+  entry-there (inr e) = position-in h 5 e
+
+  pub entry-below : (p .collector .phase ≡ 3) ⊎ (p .collector .phase ≡ 5) → EntryInRange s (entryHere p)
+  entry-below e = Each-at (EntryInRange s) (p .history) (p .collector .position) noEntry (entry-there e) (h .history)
 
   pub count-most : (a : RecordNumber) → 1 ≤ a .0 → a .0 ≤ s .n → countAt p a ≤ links s
   count-most a some low = omega (arith, h .counts a some low, tally-most (countsFor p) (links s) a)
 
   pub old-has-count : p .collector .phase ≡ 5 → 1 ≤ entryHere p .old .0 → 1 ≤ countAt p (entryHere p .old)
   old-has-count e some =
-      let here : p .collector .position < length (p .history) = position-in h 5 e in
       let old : RecordNumber = entryHere p .old in
-      omega (arith, old-counted (p .collector .position) (core-in h 5 e) here noEntry old some (entry-below here .old), ap bit (eq-eqb old.0 old.0 refl))
+      omega (arith, old-counted (p .collector .position) (core-in h 5 e) (entry-there (inr e)) noEntry old some (entry-below (inr e) .old), ap bit (eq-eqb old.0 old.0 refl))
 
   pub history-has-room : (w : ℕ) → p .collector .phase ≡ 2 → w < s .w → length (p .history) + length (logAt p w) ≤ links s
   history-has-room w e k = omega (arith, history-room (core-taken (core-in h 2 e) w k), length-append (p .history) (logAt p w))
@@ -75,11 +80,12 @@ module _ {s : Sizes} {p : Pool} (h : Sound s p) where
       )
 
   -- link f of the record that is freed, once the links before it are emptied
-  pub value-has-count : (a : RecordNumber) (f : ℕ) → p .collector .phase ≡ 6 → 1 ≤ a .0 → a .0 ≤ s .n → Passed s p a → f < s .k
+  pub value-has-count : (a : RecordNumber) (f : ℕ) → p .collector .phase ≡ 6 → 1 ≤ a .0 → a .0 ≤ s .n → passes s p a ≡ true → f < s .k
       → 1 ≤ valueAt (emptiedFrom s a 0 f p) (linkNumber s a f) .0
       → 1 ≤ countAt (emptiedFrom s a 0 f p) (valueAt (emptiedFrom s a 0 f p) (linkNumber s a f))
   unfolding emptied falls
-  value-has-count a f e some low pass k there =
+  value-has-count a f e some low taken k there =
+      let pass : Passed s p a = passed s p a taken in
       let q : Pool = emptiedFrom s a 0 f p in
       let l : LinkNumber = linkNumber s a f in
       let v : RecordNumber = valueAt q l in

@@ -3,31 +3,37 @@
 --     used-event     what an event does to a record's used mark is told by its answer
 --     used-run       so is what a run does, from any sound pool
 --     used-are-made-less-freed     and from the fresh pool
+--     made-was-free, freed-was-used     a make answers a record that was free, and a record freed was used
 -- Assumes nothing.
 use Prim.Native.Nat.{ℕ, zero, suc, _≤_}
 use mathlib.Core.Path.{_≡_, refl, sym, ap, _∙_}
 use mathlib.Core.Logic.{_⊎_, inl, inr, ⊎-elim}
-use mathlib.Core.Bool.{Bool, true, false, cond}
+use mathlib.Core.Bool.{Bool, true, false, cond, _&&_, true≢false}
 use mathlib.Core.List.{List, [], _∷_}
 use native.Mathlib.Omega.{arith}
+use borrow.Author.Tests.{ne-eqb, eqb-true}
+use lib.Dec.{eqb}
 use lib.ListN.{length}
 use Rattle.rules.specs.declared.Sizes.{Sizes}
 use Rattle.rules.specs.declared.RecordNumber.{RecordNumber}
+use Rattle.rules.specs.declared.Refusal.{Refusal}
+use Rattle.rules.specs.declared.Refusal.the-variants.{WrongSize, NotSound, NoSuch, HoldsNone, NoneFree, LogFull, WrongTag, WrongLength, StopsShort, WrongStep, ExtraByte, WrongCount}
+use Rattle.rules.specs.declared.Answer.the-variants.{Refused}
 use Rattle.rules.specs.declared.Event.{Event}
 use Rattle.rules.specs.declared.Event.the-variants.{Make, Move, Drop, Load, Store, Collect}
 use Rattle.rules.specs.Size.{inRange}
 use Rattle.rules.specs.Pool.{Pool, ofRecord, withRecord, usedAt, fresh}
-use Rattle.rules.specs.Reply.{Outcome}
+use Rattle.rules.specs.Reply.{refusalNumber, number, value, Outcome}
 use Rattle.rules.specs.Worker.{chosen, makes, moves, drops, loads, added, stores}
-use Rattle.rules.specs.Collect.{onward, opens, snoops, madeBy, takes, clears, scans, falls, rises, counted, counts, passes, reclaimed, emptied, emptiedFrom, frees, closes, reclaim, reclaims, collects}
-use Rattle.rules.specs.Outcome.{does, outcome, answers, after, sameRecord, usedAfter, inUse}
+use Rattle.rules.specs.Collect.{onward, stepped, opens, snoops, madeBy, takes, clears, scans, falls, rises, counted, counts, passes, reclaimed, emptied, emptiedFrom, frees, closes, reclaim, reclaims, collects}
+use Rattle.rules.specs.Outcome.{refused, does, outcome, answers, after, answersMade, answersFreed, usedAfter, inUse}
 use Rattle.rules.specs.Sound.{Sound}
-use Rattle.laws.proofs.Tests.{eqb-cases}
+use Rattle.laws.proofs.Tests.{eqb-cases, and-left, and-right}
 use Rattle.laws.proofs.Number.{record-same}
 use Rattle.laws.proofs.Lists.{ofRecord-same, ofRecord-other}
-use Rattle.laws.proofs.Chosen.{chosen-low}
+use Rattle.laws.proofs.Chosen.{chosen-low, chosen-free}
 use Rattle.laws.proofs.Change.{stored-has, emptied-keeps}
-use Rattle.laws.proofs.Search.{reclaimed-passes}
+use Rattle.laws.proofs.Search.{passed, reclaimed-passes}
 use Rattle.laws.proofs.Refusals.{decided-outcome, can-make}
 use Rattle.laws.proofs.Phases.{by-phase}
 use Rattle.soundness.proofs.Fresh.{ofRecord-all}
@@ -35,7 +41,7 @@ use Rattle.soundness.proofs.Kept.{event-keeps-sound, fresh-is-sound}
 
 -- a table of used marks of which one is written
 used-set : (table : List Bool) (a b : RecordNumber) (x : Bool) → 1 ≤ b .0 → b .0 ≤ length table
-    → ofRecord (withRecord table (b .0) x) (a .0) false ≡ cond (sameRecord b a) x (ofRecord table (a .0) false)
+    → ofRecord (withRecord table (b .0) x) (a .0) false ≡ cond (eqb (b .0) (a .0)) x (ofRecord table (a .0) false)
 used-set table a b x some low =
     ⊎-elim
     (λ e.
@@ -44,19 +50,46 @@ used-set table a b x some low =
     (λ e. ofRecord-other table b.0 a.0 x false (e .0) ∙ sym (ap (λ t. cond t x (ofRecord table (a .0) false)) (e .1)))
     (eqb-cases b.0 a.0)
 
-module _ (s : Sizes) (p : Pool) (h : Sound s p) (a : RecordNumber) where
-  -- the mark after an outcome is the one that its answer tells
-  abbrev Told : Outcome → Type 0
-  Told o = usedAt (o .pool) a ≡ usedAfter a (usedAt p a) (o .answer)
+-- a refusal has a number that is not 0
+refusal-number : (why : Refusal) → eqb (number (Refused why)) 0 ≡ false
+unfolding number refusalNumber
+refusal-number WrongSize = refl
+refusal-number NotSound = refl
+refusal-number NoSuch = refl
+refusal-number HoldsNone = refl
+refusal-number NoneFree = refl
+refusal-number LogFull = refl
+refusal-number WrongTag = refl
+refusal-number WrongLength = refl
+refusal-number StopsShort = refl
+refusal-number WrongStep = refl
+refusal-number ExtraByte = refl
+refusal-number WrongCount = refl
 
-  collects-told : Told (collects s p)
-  unfolding opens onward snoops madeBy takes clears scans counted falls rises counts closes reclaim reclaims frees emptied usedAfter
+module _ (s : Sizes) (p : Pool) (h : Sound s p) (a : RecordNumber) (some : 1 ≤ a .0) where
+  -- the mark after an outcome is the one that its answer tells
+  abbrev Told : Event → Outcome → Type 0
+  Told e o = usedAt (o .pool) a ≡ usedAfter a (usedAt p a) e (o .answer)
+
+  -- a step that frees nothing answers no record
+  stepped-told : (q : Pool) → usedAt q a ≡ usedAt p a → Told Collect (stepped q)
+  unfolding usedAfter answersMade answersFreed value
+  stepped-told q e = e ∙ sym (ap (λ t. cond t false (usedAt p a)) (ne-eqb 0 a.0 (λ z. omega arith)))
+
+  collects-told : Told Collect (collects s p)
+  unfolding opens onward snoops madeBy takes clears scans counted falls rises counts closes reclaim reclaims frees emptied usedAfter answersMade answersFreed value
   collects-told =
-      by-phase s p Told (h .phase) (λ e. refl) (λ e. refl) (λ e. refl) (λ e. refl) (λ e. refl) (λ e. refl)
+      by-phase s p (Told Collect) (h .phase)
+      (λ e. stepped-told (opens s p .pool) refl)
+      (λ e. stepped-told (snoops s p .pool) refl)
+      (λ e. stepped-told (takes s p .pool) refl)
+      (λ e. stepped-told (clears s p .pool) refl)
+      (λ e. stepped-told (scans s p .pool) refl)
+      (λ e. stepped-told (counts s p .pool) refl)
       (λ e. by-number (reclaimed s p .0) refl (reclaimed-passes s p))
     where
-      by-number : (k : ℕ) → reclaimed s p .0 ≡ k → (reclaimed s p .0 ≡ 0) ⊎ ((passes s p (reclaimed s p) ≡ true) × (1 ≤ reclaimed s p .0) × (reclaimed s p .0 ≤ s .n)) → Told (reclaim s p k)
-      by-number zero f x = refl
+      by-number : (k : ℕ) → reclaimed s p .0 ≡ k → (reclaimed s p .0 ≡ 0) ⊎ ((passes s p (reclaimed s p) ≡ true) × (1 ≤ reclaimed s p .0) × (reclaimed s p .0 ≤ s .n)) → Told Collect (reclaim s p k)
+      by-number zero f x = stepped-told (closes p) refl
       by-number (suc i) f (inl z) = absurd (omega arith)
       by-number (suc i) f (inr x) =
           let y : RecordNumber = record { 0 = suc i } in
@@ -64,34 +97,87 @@ module _ (s : Sizes) (p : Pool) (h : Sound s p) (a : RecordNumber) where
           ap (λ table. ofRecord (withRecord table (y .0) false) (a .0) false) same
           ∙ used-set (p .records .used) a y false (omega arith) (omega (arith, x .2, h .shaped .records .used))
 
-  stores-told : (w q f r : ℕ) → Told (stores s w q f r p)
-  unfolding usedAfter stores added
+  stores-told : (w q f r : ℕ) → Told (Store w q f r) (stores s w q f r p)
+  unfolding usedAfter answersMade answersFreed stores added
   stores-told w q f r = stored-has s p w q f r (λ t. usedAt t a ≡ usedAt p a) (λ on t e. e) (λ off. refl) (λ on. refl)
 
-  pub used-event : (e : Event) → Told (outcome s p e)
-  unfolding outcome does makes moves drops loads usedAfter
+  refused-told : (e : Event) (why : Refusal) → Told e (refused why p)
+  unfolding usedAfter answersMade answersFreed value
+  refused-told (Make w r) why = sym (ap (λ t. cond (t && eqb (value (Refused why)) (a .0)) true (usedAt p a)) (refusal-number why))
+  refused-told (Move w r q) why = refl
+  refused-told (Drop w r) why = refl
+  refused-told (Load w r q f) why = refl
+  refused-told (Store w q f r) why = refl
+  refused-told Collect why = sym (ap (λ t. cond t false (usedAt p a)) (ne-eqb 0 a.0 (λ z. omega arith)))
+
+  pub used-event : (e : Event) → Told e (outcome s p e)
+  unfolding outcome does makes moves drops loads usedAfter answersMade answersFreed number value
   used-event (Make w r) =
-      decided-outcome Told p (λ why. refl) _ _ (λ t.
+      decided-outcome (Told (Make w r)) p (refused-told (Make w r)) _ _ (λ t.
       used-set (p .records .used) a (chosen p) true (can-make s p w r t .1) (chosen-low p))
-  used-event (Move w r q) = decided-outcome Told p (λ why. refl) _ _ (λ t. refl)
-  used-event (Drop w r) = decided-outcome Told p (λ why. refl) _ _ (λ t. refl)
-  used-event (Load w r q f) = decided-outcome Told p (λ why. refl) _ _ (λ t. refl)
-  used-event (Store w q f r) = decided-outcome Told p (λ why. refl) _ _ (λ t. stores-told w q f r)
-  used-event Collect = decided-outcome Told p (λ why. refl) _ _ (λ t. collects-told)
+  used-event (Move w r q) = decided-outcome (Told (Move w r q)) p (refused-told (Move w r q)) _ _ (λ t. refl)
+  used-event (Drop w r) = decided-outcome (Told (Drop w r)) p (refused-told (Drop w r)) _ _ (λ t. refl)
+  used-event (Load w r q f) = decided-outcome (Told (Load w r q f)) p (refused-told (Load w r q f)) _ _ (λ t. refl)
+  used-event (Store w q f r) = decided-outcome (Told (Store w q f r)) p (refused-told (Store w q f r)) _ _ (λ t. stores-told w q f r)
+  used-event Collect = decided-outcome (Told Collect) p (refused-told Collect) _ _ (λ t. collects-told)
 
 -- ---- a run
 
-used-run : (s : Sizes) → inRange s ≡ true → (p : Pool) → Sound s p → (a : RecordNumber) (events : List Event)
-    → usedAt (after s p events) a ≡ inUse a (usedAt p a) (answers s p events)
+used-run : (s : Sizes) → inRange s ≡ true → (p : Pool) → Sound s p → (a : RecordNumber) → 1 ≤ a .0 → (events : List Event)
+    → usedAt (after s p events) a ≡ inUse a (usedAt p a) events (answers s p events)
 unfolding after answers inUse
-used-run s r p h a [] = refl
-used-run s r p h a (e ∷ events) =
-    used-run s r (outcome s p e .pool) (event-keeps-sound s r p h e) a events
-    ∙ ap (λ before. inUse a before (answers s (outcome s p e .pool) events)) (used-event s p h a e)
+used-run s r p h a some [] = refl
+used-run s r p h a some (e ∷ events) =
+    used-run s r (outcome s p e .pool) (event-keeps-sound s r p h e) a some events
+    ∙ ap (λ before. inUse a before events (answers s (outcome s p e .pool) events)) (used-event s p h a some e)
 
-pub used-are-made-less-freed : (s : Sizes) → inRange s ≡ true → (events : List Event) (a : RecordNumber)
-    → usedAt (after s (fresh s) events) a ≡ inUse a false (answers s (fresh s) events)
+pub used-are-made-less-freed : (s : Sizes) → inRange s ≡ true → (events : List Event) (a : RecordNumber) → 1 ≤ a .0
+    → usedAt (after s (fresh s) events) a ≡ inUse a false events (answers s (fresh s) events)
 unfolding fresh
-used-are-made-less-freed s r events a =
-    used-run s r (fresh s) (fresh-is-sound s) a events
-    ∙ ap (λ before. inUse a before (answers s (fresh s) events)) (ofRecord-all (s .n) false a.0)
+used-are-made-less-freed s r events a some =
+    used-run s r (fresh s) (fresh-is-sound s) a some events
+    ∙ ap (λ before. inUse a before events (answers s (fresh s) events)) (ofRecord-all (s .n) false a.0)
+
+-- ---- a make answers a record that was free, and a record freed was used: so each make adds one and each freeing takes one away
+
+module _ (s : Sizes) (p : Pool) (h : Sound s p) (a : RecordNumber) where
+  made-of : (x : Bool) → (x && eqb (chosen p .0) (a .0)) ≡ true → chosen p ≡ a
+  made-of x e = record-same (chosen p) a (eqb-true (chosen p .0) a.0 (and-right x (eqb (chosen p .0) (a .0)) e))
+
+  pub made-was-free : (e : Event) → answersMade a e (outcome s p e .answer) ≡ true → usedAt p a ≡ false
+  unfolding outcome does makes answersMade number value
+  made-was-free (Make w r) =
+      decided-outcome (λ o. answersMade a (Make w r) (o .answer) ≡ true → usedAt p a ≡ false) p
+      (λ why z. absurd (true≢false (sym (and-left (eqb (number (Refused why)) 0) (eqb (value (Refused why)) (a .0)) z) ∙ refusal-number why)))
+      _
+      _
+      (λ t z. ap (λ (b : RecordNumber). usedAt p b) (sym (made-of true z)) ∙ chosen-free p (can-make s p w r t .1))
+  made-was-free (Move w r q) = λ z. absurd (true≢false (sym z))
+  made-was-free (Drop w r) = λ z. absurd (true≢false (sym z))
+  made-was-free (Load w r q f) = λ z. absurd (true≢false (sym z))
+  made-was-free (Store w q f r) = λ z. absurd (true≢false (sym z))
+  made-was-free Collect = λ z. absurd (true≢false (sym z))
+
+  pub freed-was-used : (e : Event) → 1 ≤ a .0 → answersFreed a e (outcome s p e .answer) ≡ true → usedAt p a ≡ true
+  unfolding outcome does answersFreed value opens snoops takes clears scans counts reclaims reclaim
+  freed-was-used (Make w r) some = λ z. absurd (true≢false (sym z))
+  freed-was-used (Move w r q) some = λ z. absurd (true≢false (sym z))
+  freed-was-used (Drop w r) some = λ z. absurd (true≢false (sym z))
+  freed-was-used (Load w r q f) some = λ z. absurd (true≢false (sym z))
+  freed-was-used (Store w q f r) some = λ z. absurd (true≢false (sym z))
+  freed-was-used Collect some =
+      decided-outcome Was p (λ why. stepped) _ _ (λ t.
+      by-phase s p Was (h .phase) (λ e. stepped) (λ e. stepped) (λ e. stepped) (λ e. stepped) (λ e. stepped) (λ e. stepped)
+      (λ e. by-number (reclaimed s p .0) refl (reclaimed-passes s p)))
+    where
+      Was : Outcome → Type 0
+      Was o = answersFreed a Collect (o .answer) ≡ true → usedAt p a ≡ true
+
+      stepped : eqb 0 (a .0) ≡ true → usedAt p a ≡ true
+      stepped z = absurd (let e = eqb-true 0 a.0 z in omega arith)
+
+      by-number : (k : ℕ) → reclaimed s p .0 ≡ k → (reclaimed s p .0 ≡ 0) ⊎ ((passes s p (reclaimed s p) ≡ true) × (1 ≤ reclaimed s p .0) × (reclaimed s p .0 ≤ s .n)) → Was (reclaim s p k)
+      by-number zero f x = stepped
+      by-number (suc i) f (inl z) = absurd (omega arith)
+      by-number (suc i) f (inr x) = λ z.
+          ap (λ (b : RecordNumber). usedAt p b) (sym (record-same (reclaimed s p) a (f ∙ eqb-true (suc i) a.0 z))) ∙ passed s p (reclaimed s p) (x .0) .used

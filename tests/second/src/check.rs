@@ -90,13 +90,16 @@ impl<'a> Check<'a> {
 
     /// "From a fresh pool the used records are the makes answered with 0 less the records freed."
     fn used_are_made_less_freed(&mut self, moment: &Moment) -> Result<(), String> {
-        if let (Event::Make { .. }, 0) = (moment.event, moment.answer.number) {
-            self.made_and_not_freed.extend(moment.answer.value);
+        let mut one_more_or_less = true;
+        if let (Event::Make { .. }, 0, Some(record)) =
+            (moment.event, moment.answer.number, moment.answer.value)
+        {
+            one_more_or_less = self.made_and_not_freed.insert(record);
         }
         if let Some(record) = moment.freed() {
-            self.made_and_not_freed.remove(&record);
+            one_more_or_less = self.made_and_not_freed.remove(&record);
         }
-        hold(moment.after.used == self.made_and_not_freed, || {
+        hold(one_more_or_less && moment.after.used == self.made_and_not_freed, || {
             "the used records are not the makes answered with 0 less the records freed".into()
         })
     }

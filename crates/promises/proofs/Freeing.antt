@@ -1,8 +1,8 @@
 -- Phase 6 keeps the invariant: the record that it frees is named nowhere and is not kept, so that emptying its links takes nothing away from what is.
---     Lost                        a record that nothing names and nothing keeps
---     lost-not-kept               it is not kept
---     passed-lost                 a record that phase 6 takes is lost
---     named-emptied, phased-emptied, lost-emptied     one of its links is emptied
+--     Unkept, Unnamed             a record that nothing keeps, and that nothing names either
+--     unkept               it is not kept
+--     passed-unnamed                 a record that phase 6 takes is unnamed
+--     named-emptied, phased-emptied, unnamed-emptied     one of its links is emptied
 --     emptied-through             all of them are
 --     named-freed, phased-freed   it is freed
 --     named-closed                the close
@@ -37,7 +37,7 @@ use Rattle.soundness.proofs.Core.{Core, times-most}
 use Rattle.promises.proofs.Invariant.{Used, Kept, by-held, by-maker, by-mark, by-view, NoneOrKept, Since, Named, Phased}
 use Rattle.promises.proofs.Grow.{kept-grows}
 
--- ---- lost
+-- ---- unkept, unnamed
 
 -- nothing keeps it
 pub record Unkept (s : Sizes) (p : Pool) (y : RecordNumber) : Type 0 where
@@ -53,7 +53,7 @@ unkept u (by-mark f some k h) = true≢false (sym h ∙ u .unmarked f k)
 unkept {s} u (by-view {a = a} f x k e some) = u .view (linkNumber s a f) (ap (λ (b : RecordNumber). b .0) e)
 
 -- and nothing names it
-pub record Lost (s : Sizes) (p : Pool) (y : RecordNumber) : Type 0 where
+pub record Unnamed (s : Sizes) (p : Pool) (y : RecordNumber) : Type 0 where
   pub unkept : Unkept s p y
   pub register : (w r : ℕ) → registerAt p w r .0 ≡ y .0 → ⊥
   pub value : (l : LinkNumber) → valueAt p l .0 ≡ y .0 → ⊥
@@ -66,7 +66,7 @@ kept-some {s} {p} (by-maker {a = a} h) = maker-some p a (makerAt p a - 1) (omega
 kept-some (by-mark f some k h) = some
 kept-some (by-view f x k e some) = some
 
--- ---- what phase 6 takes is lost
+-- ---- what phase 6 takes is unnamed
 
 module _ {s : Sizes} {p : Pool} (c : Core s p [] []) {i : ℕ} (x : Phased s p 6 i) (empty : p .history ≡ []) (y : RecordNumber) (some : 1 ≤ y .0) (low : y .0 ≤ s .n) (pass : Passed s p y) where
   -- a link number that is not below S has nothing
@@ -109,9 +109,9 @@ module _ {s : Sizes} {p : Pool} (c : Core s p [] []) {i : ℕ} (x : Phased s p 6
   is-y : (a : RecordNumber) → a .0 ≡ y .0 → NoneOrKept s p a → ⊥
   is-y a e k = unkept nothing-keeps (subst (Kept s p) (record-same a y e) (k (omega arith)))
 
-  pub passed-lost : Lost s p y
+  pub passed-unnamed : Unnamed s p y
   unfolding allLogs times
-  passed-lost =
+  passed-unnamed =
       record {
         unkept = nothing-keeps;
         register = λ w r e. ⊎-elim (λ h. is-y (registerAt p w r) e (x .scanned (omega arith) w r h)) (λ h. no-worker w r h e) (below-or-not w (s .w));
@@ -140,12 +140,12 @@ module _ {s : Sizes} {p : Pool} (c : Core s p [] []) {i : ℕ} (x : Phased s p 6
 
 -- ---- one of its links is emptied
 
-module _ {s : Sizes} {p : Pool} (y : RecordNumber) (some : 1 ≤ y .0) (low : y .0 ≤ s .n) (g : ℕ) (inside : g < s .k) (lost : Lost s p y) where
+module _ {s : Sizes} {p : Pool} (y : RecordNumber) (some : 1 ≤ y .0) (low : y .0 ≤ s .n) (g : ℕ) (inside : g < s .k) (unnamed : Unnamed s p y) where
   abbrev l : LinkNumber
   l = linkNumber s y g
 
   off : changedAt p l ≡ false
-  off = lost .unkept .unmarked g inside
+  off = unnamed .unkept .unmarked g inside
 
   -- a link's value, and its view value, stay or become none
   value-emptied : (P : RecordNumber → Type 0) (m : LinkNumber) → P none → P (valueAt p m) → P (valueAt (emptied l p) m)
@@ -197,7 +197,7 @@ module _ {s : Sizes} {p : Pool} (y : RecordNumber) (some : 1 ≤ y .0) (low : y 
   kept-emptied (by-mark f some-a k h) = by-mark f some-a k h
   kept-emptied (by-view {a = a} f x k e some-b) =
       by-view f (kept-emptied x) k
-      (view-other a f (kept-some x) k (λ z. unkept (lost .unkept) (subst (Kept s p) (record-same a y z) x)) ∙ e)
+      (view-other a f (kept-some x) k (λ z. unkept (unnamed .unkept) (subst (Kept s p) (record-same a y z) x)) ∙ e)
       some-b
 
   since-emptied : {a : RecordNumber} → 1 ≤ a .0 → Since s p 6 a → Since s (emptied l p) 6 a
@@ -230,21 +230,21 @@ module _ {s : Sizes} {p : Pool} (y : RecordNumber) (some : 1 ≤ y .0) (low : y 
             value-emptied (NoneOrKept s (emptied l p)) m (λ z. absurd (omega arith)) (λ some-a. kept-emptied (x .marked four m h e some-a));
       }
 
-  pub lost-emptied : Lost s (emptied l p) y
+  pub unnamed-emptied : Unnamed s (emptied l p) y
   unfolding emptied falls allLogs
-  lost-emptied =
+  unnamed-emptied =
       record {
         unkept =
             record {
-              held = lost .unkept .held;
-              maker = lost .unkept .maker;
-              unmarked = lost .unkept .unmarked;
-              view = λ m. view-emptied (λ b. b .0 ≡ y .0 → ⊥) m (λ e. omega arith) (lost .unkept .view m);
+              held = unnamed .unkept .held;
+              maker = unnamed .unkept .maker;
+              unmarked = unnamed .unkept .unmarked;
+              view = λ m. view-emptied (λ b. b .0 ≡ y .0 → ⊥) m (λ e. omega arith) (unnamed .unkept .view m);
             };
-        register = lost .register;
-        value = λ m. value-emptied (λ b. b .0 ≡ y .0 → ⊥) m (λ e. omega arith) (lost .value m);
-        log = lost .log;
-        history = lost .history;
+        register = unnamed .register;
+        value = λ m. value-emptied (λ b. b .0 ≡ y .0 → ⊥) m (λ e. omega arith) (unnamed .value m);
+        log = unnamed .log;
+        history = unnamed .history;
       }
 
 -- ---- all of its links are emptied
@@ -252,7 +252,7 @@ module _ {s : Sizes} {p : Pool} (y : RecordNumber) (some : 1 ≤ y .0) (low : y 
 pub record Emptied (s : Sizes) (y : RecordNumber) (i : ℕ) (p : Pool) : Type 0 where
   pub named : Named s p
   pub phased : Phased s p 6 i
-  pub lost : Lost s p y
+  pub unnamed : Unnamed s p y
 
 pub emptied-through : (s : Sizes) (y : RecordNumber) (i f left : ℕ) (p : Pool) → 1 ≤ y .0 → y .0 ≤ s .n → f + left ≤ s .k
     → Emptied s y i p → Emptied s y i (emptiedFrom s y f left p)
@@ -262,9 +262,9 @@ emptied-through s y i f (suc left) p some low k x =
     let inside : f < s .k = omega arith in
     emptied-through s y i (suc f) left (emptied (linkNumber s y f) p) some low (omega arith)
     (record {
-      named = named-emptied y some low f inside (x .lost) (x .named);
-      phased = phased-emptied y some low f inside (x .lost) (x .phased);
-      lost = lost-emptied y some low f inside (x .lost);
+      named = named-emptied y some low f inside (x .unnamed) (x .named);
+      phased = phased-emptied y some low f inside (x .unnamed) (x .phased);
+      unnamed = unnamed-emptied y some low f inside (x .unnamed);
     })
 
 -- ---- it is free
@@ -291,15 +291,15 @@ module _ (s : Sizes) (p : Pool) (y : RecordNumber) (some : 1 ≤ y .0) (low-used
   unfolding allLogs
   named-freed =
       record {
-        registers = λ w r. used-stays (registerAt p w r) (x .lost .register w r) (x .named .registers w r);
-        values = λ l. used-stays (valueAt p l) (x .lost .value l) (x .named .values l);
-        logs = Each-map₂ (allLogs p) (λ e n h. used-stays (e .old) n h) (x .lost .log) (x .named .logs);
-        history = Each-map₂ (p .history) (λ e n h. used-stays (e .old) n h) (x .lost .history) (x .named .history);
+        registers = λ w r. used-stays (registerAt p w r) (x .unnamed .register w r) (x .named .registers w r);
+        values = λ l. used-stays (valueAt p l) (x .unnamed .value l) (x .named .values l);
+        logs = Each-map₂ (allLogs p) (λ e n h. used-stays (e .old) n h) (x .unnamed .log) (x .named .logs);
+        history = Each-map₂ (p .history) (λ e n h. used-stays (e .old) n h) (x .unnamed .history) (x .named .history);
         free-candidate =
             λ a.
             by-free (λ b. candidateAt freed b ≡ false) (ofRecord-same (p .records .candidate) y.0 false false some low-candidate) a
             (λ n h. ofRecord-other (p .records .candidate) y.0 a.0 false false (λ e. n (sym e)) ∙ x .named .free-candidate a h);
-        free-maker = λ a. by-free (λ b. makerAt p b ≡ 0) (x .lost .unkept .maker) a (λ n h. x .named .free-maker a h);
+        free-maker = λ a. by-free (λ b. makerAt p b ≡ 0) (x .unnamed .unkept .maker) a (λ n h. x .named .free-maker a h);
         free-links =
             λ a some-a free f k.
             by-free (λ b. valueAt p (linkNumber s b f) ≡ none) (none-left f k) a (λ n h. x .named .free-links a some-a h f k) free;
@@ -325,7 +325,7 @@ module _ (s : Sizes) (p : Pool) (y : RecordNumber) (some : 1 ≤ y .0) (low-used
             candidate =
                 λ h.
                 ⊎-elim
-                (λ q. absurd (omega (arith, ap (λ (b : RecordNumber). makerAt p b) (record-same a y (q .0)), x .lost .unkept .maker)))
+                (λ q. absurd (omega (arith, ap (λ (b : RecordNumber). makerAt p b) (record-same a y (q .0)), x .unnamed .unkept .maker)))
                 (λ q. z .candidate (sym (ofRecord-other (p .records .candidate) y.0 a.0 false false (λ t. q .0 (sym t))) ∙ h))
                 (eqb-cases a.0 y.0);
             history = z .history;
