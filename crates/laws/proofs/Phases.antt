@@ -32,7 +32,7 @@ module _ (s : Sizes) (p : Pool) (P : Outcome → Type 0) where
       → (p .collector .phase ≡ 6 → P (reclaims s p))
       → P (collects s p)
   unfolding collects phases
-  by-phase most opened snoop take clear scan count reclaim = at (p .collector .phase) refl most
+  by-phase most opened snoop take clear scan count found = at (p .collector .phase) refl most
     where
       at : (k : ℕ) → p .collector .phase ≡ k → k ≤ 6 → P (getD phases k (λ s p. stepped p) s p)
       at zero e l = opened e
@@ -41,7 +41,7 @@ module _ (s : Sizes) (p : Pool) (P : Outcome → Type 0) where
       at (suc (suc (suc zero))) e l = clear e
       at (suc (suc (suc (suc zero)))) e l = scan e
       at (suc (suc (suc (suc (suc zero))))) e l = count e
-      at (suc (suc (suc (suc (suc (suc zero)))))) e l = reclaim e
+      at (suc (suc (suc (suc (suc (suc zero)))))) e l = found e
       at (suc (suc (suc (suc (suc (suc (suc k))))))) e l = absurd (omega arith)
 
 -- ---- moving on

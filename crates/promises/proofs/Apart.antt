@@ -21,7 +21,7 @@ use Rattle.rules.specs.declared.Event.the-variants.{Make, Move, Drop, Load, Sto
 use Rattle.rules.specs.Size.{inRange, linkNumber}
 use Rattle.rules.specs.Pool.{Pool, none, usedAt, valueAt, registerAt, withRegister, fresh}
 use Rattle.rules.specs.Worker.{chosen, makes, moves, drops, loads, added, stores}
-use Rattle.rules.specs.Collect.{onward, opens, snoops, madeBy, takes, clears, scans, falls, rises, counted, counts, emptied, frees, closes, reclaim, reclaimed, reclaims, collects}
+use Rattle.rules.specs.Collect.{onward, opens, snoops, madeBy, takes, clears, scans, falls, rises, counted, counts, emptied, frees, closes, freesOrCloses, reclaimed, reclaims, collects}
 use Rattle.rules.specs.Outcome.{does, outcome, after}
 use Rattle.rules.specs.Sound.{Sound}
 use Rattle.laws.proofs.Number.{record-same, link-apart}
@@ -165,7 +165,7 @@ pub record Shrunk (p q : Pool) : Type 0 where
   pub values : (l : LinkNumber) → (valueAt q l ≡ valueAt p l) ⊎ (valueAt q l ≡ none)
 
 collected : (s : Sizes) (p : Pool) → p .collector .phase ≤ 6 → Shrunk p (collects s p .pool)
-unfolding opens onward snoops madeBy takes clears scans counted falls rises counts closes reclaim reclaims frees emptied
+unfolding opens onward snoops madeBy takes clears scans counted falls rises counts closes freesOrCloses reclaims frees emptied
 collected s p h =
     by-phase s p (λ o. Shrunk p (o .pool)) h
     (λ e. record { registers = λ v r. refl; values = λ l. inl refl })
@@ -176,7 +176,7 @@ collected s p h =
     (λ e. record { registers = λ v r. refl; values = λ l. inl refl })
     (λ e. by-number (reclaimed s p .0))
   where
-    by-number : (k : ℕ) → Shrunk p (reclaim s p k .pool)
+    by-number : (k : ℕ) → Shrunk p (freesOrCloses s p k .pool)
     by-number zero = record { registers = λ v r. refl; values = λ l. inl refl }
     by-number (suc i) =
         record {

@@ -31,7 +31,7 @@ use Rattle.rules.specs.Pool.{Entry, Pool, none, countAt, valueAt, changedAt, re
 use Rattle.rules.specs.View.{times, oldIn, lookUp, viewValue}
 use Rattle.rules.specs.Reply.{value, Outcome}
 use Rattle.rules.specs.Worker.{makes, moves, drops, loads, added, stores}
-use Rattle.rules.specs.Collect.{phaseAfter, lastOf, stepped, opens, snoops, madeBy, takes, noEntry, entryHere, clears, heldBy, scans, falls, rises, counted, counts, passes, reclaimed, emptied, frees, closes, reclaim, reclaims}
+use Rattle.rules.specs.Collect.{phaseAfter, lastOf, stepped, opens, snoops, madeBy, takes, noEntry, entryHere, clears, heldBy, scans, falls, rises, counted, counts, passes, reclaimed, emptied, frees, closes, freesOrCloses, reclaims}
 use Rattle.rules.specs.Outcome.{refused, does, outcome, after}
 use Rattle.rules.specs.Sound.{Sound, uncleared, tally}
 use Rattle.laws.proofs.Tests.{eqb-cases, and-left, and-right, bit-on}
@@ -315,10 +315,10 @@ module _ {s : Sizes} {p : Pool} (sound : Sound s p) (seen : LinkNumber → Recor
   closes-sees e = quiet Collect (stepped (closes p)) (λ l. refl) (record { marks = λ l h. h; same = λ l h. sym (seen-in 6 e l) })
 
   reclaims-sees : p .collector .phase ≡ 6 → Sees Collect (reclaims s p)
-  unfolding emptiedBy value reclaims reclaim
+  unfolding emptiedBy value reclaims freesOrCloses
   reclaims-sees e = by-number (reclaimed s p .0) refl (reclaimed-passes s p)
     where
-      by-number : (k : ℕ) → reclaimed s p .0 ≡ k → (reclaimed s p .0 ≡ 0) ⊎ ((passes s p (reclaimed s p) ≡ true) × (1 ≤ reclaimed s p .0) × (reclaimed s p .0 ≤ s .n)) → Sees Collect (reclaim s p k)
+      by-number : (k : ℕ) → reclaimed s p .0 ≡ k → (reclaimed s p .0 ≡ 0) ⊎ ((passes s p (reclaimed s p) ≡ true) × (1 ≤ reclaimed s p .0) × (reclaimed s p .0 ≤ s .n)) → Sees Collect (freesOrCloses s p k)
       by-number zero f x = closes-sees e
       by-number (suc i) f (inl z) = absurd (omega arith)
       by-number (suc i) f (inr x) =

@@ -32,7 +32,7 @@ use Rattle.rules.specs.Pool.{Pool, none, ofRecord, fresh, countAt, makerAt, val
 use Rattle.rules.specs.View.{times, oldIn, allLogs, viewValue}
 use Rattle.rules.specs.Reply.{value, Outcome}
 use Rattle.rules.specs.Worker.{makes, moves, drops, loads, added, stores}
-use Rattle.rules.specs.Collect.{phaseAfter, onward, stepped, opens, snoops, madeBy, takes, clears, scans, falls, rises, counted, counts, passes, reclaimed, emptied, emptiedFrom, frees, closes, reclaim, reclaims, collects}
+use Rattle.rules.specs.Collect.{phaseAfter, onward, stepped, opens, snoops, madeBy, takes, clears, scans, falls, rises, counted, counts, passes, reclaimed, emptied, emptiedFrom, frees, closes, freesOrCloses, reclaims, collects}
 use Rattle.rules.specs.Outcome.{answersFreed, refused, does, outcome, answers, after}
 use Rattle.rules.specs.Sound.{Each, Sound}
 use Rattle.laws.proofs.Tests.{bit-off}
@@ -222,10 +222,10 @@ module _ {s : Sizes} {p₀ p : Pool} {R : RecordNumber → Type 0} (reached : Re
   here = p .collector .position
 
   reclaims-goes-on : p .collector .phase ≡ 6 → Goes-on Collect (reclaims s p)
-  unfolding reclaims reclaim closes answersFreed value
+  unfolding reclaims freesOrCloses closes answersFreed value
   reclaims-goes-on e = by-number (reclaimed s p .0) refl (reclaimed-passes s p)
     where
-      by-number : (k : ℕ) → reclaimed s p .0 ≡ k → (reclaimed s p .0 ≡ 0) ⊎ ((passes s p (reclaimed s p) ≡ true) × (1 ≤ reclaimed s p .0) × (reclaimed s p .0 ≤ s .n)) → Goes-on Collect (reclaim s p k)
+      by-number : (k : ℕ) → reclaimed s p .0 ≡ k → (reclaimed s p .0 ≡ 0) ⊎ ((passes s p (reclaimed s p) ≡ true) × (1 ≤ reclaimed s p .0) × (reclaimed s p .0 ≤ s .n)) → Goes-on Collect (freesOrCloses s p k)
       by-number zero f x = λ open-still. absurd (open-still refl)
       by-number (suc i) f (inl z) = absurd (omega arith)
       by-number (suc i) f (inr x) = λ open-still.
@@ -281,10 +281,10 @@ module _ (s : Sizes) (p : Pool) (most : p .collector .phase ≤ 6) (open-before 
       (λ h z. absurd (let up = phase-goes-up (suc k) (q .history) in omega arith))
 
   reclaims-closed : p .collector .phase ≡ 6 → Closed (reclaims s p)
-  unfolding reclaims reclaim
+  unfolding reclaims freesOrCloses
   reclaims-closed e = by-number (reclaimed s p .0) refl
     where
-      by-number : (k : ℕ) → reclaimed s p .0 ≡ k → Closed (reclaim s p k)
+      by-number : (k : ℕ) → reclaimed s p .0 ≡ k → Closed (freesOrCloses s p k)
       by-number zero f z = (e, f)
       by-number (suc i) f z = absurd (open-before (sym (ap (λ c. c .phase) (frees-collector s (record { 0 = suc i }) p)) ∙ z))
 

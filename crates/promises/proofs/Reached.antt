@@ -28,7 +28,7 @@ use Rattle.rules.specs.declared.Event.the-variants.{Make, Move, Drop, Load, Sto
 use Rattle.rules.specs.Size.{links, linkNumber}
 use Rattle.rules.specs.Pool.{Pool, none, usedAt, changedAt, registersAt}
 use Rattle.rules.specs.Reply.{value, Outcome}
-use Rattle.rules.specs.Collect.{opens, snoops, takes, clears, scans, counts, passes, reclaimed, reclaim, reclaims, collects}
+use Rattle.rules.specs.Collect.{opens, snoops, takes, clears, scans, counts, passes, reclaimed, freesOrCloses, reclaims, collects}
 use Rattle.rules.specs.Outcome.{answersMade, answersFreed, usedAfter, does, outcome}
 use Rattle.rules.specs.Sound.{Sound}
 use Rattle.laws.proofs.Tests.{below-or-not}
@@ -83,7 +83,7 @@ module _ {s : Sizes} {p : Pool} (sound : Sound s p) (state : State s p) where
 
   -- only the step of phase 6 frees, and what it frees passed the search
   collected-unreached : (a : RecordNumber) → Unreached a Collect (collects s p)
-  unfolding opens snoops takes clears scans counts reclaims reclaim answersFreed value
+  unfolding opens snoops takes clears scans counts reclaims freesOrCloses answersFreed value
   collected-unreached a =
       by-phase s p (Unreached a Collect) (sound .phase)
       (λ e. stepped) (λ e. stepped) (λ e. stepped) (λ e. stepped) (λ e. stepped) (λ e. stepped)
@@ -96,7 +96,7 @@ module _ {s : Sizes} {p : Pool} (sound : Sound s p) (state : State s p) where
       found = reclaimed s p
 
       by-number : p .collector .phase ≡ 6 → (k : ℕ) → found .0 ≡ k → (found .0 ≡ 0) ⊎ ((passes s p found ≡ true) × (1 ≤ found .0) × (found .0 ≤ s .n))
-          → Unreached a Collect (reclaim s p k)
+          → Unreached a Collect (freesOrCloses s p k)
       by-number e zero f pass = stepped
       by-number e (suc i) f (inl none-found) = λ z w x. omega arith
       by-number e (suc i) f (inr pass) = λ z w x.

@@ -19,7 +19,7 @@ use Rattle.rules.specs.Size.{linkNumber}
 use Rattle.rules.specs.Pool.{Pool, ofRecord, withRecord, usedAt, countAt, heldAt, candidateAt, makerAt, valueAt, changedAt, logAt, registersAt, withHeld, withSnoop, withLog, withHistory, withChanged, fresh}
 use Rattle.rules.specs.View.{viewValue}
 use Rattle.rules.specs.Worker.{chosen, makes, moves, drops, loads, added, stores}
-use Rattle.rules.specs.Collect.{phaseAfter, lastOf, opens, snoops, madeBy, takes, entryHere, clears, heldBy, scans, falls, rises, counted, counts, passes, reclaimed, emptied, emptiedFrom, frees, closes, reclaim, reclaims}
+use Rattle.rules.specs.Collect.{phaseAfter, lastOf, opens, snoops, madeBy, takes, entryHere, clears, heldBy, scans, falls, rises, counted, counts, passes, reclaimed, emptied, emptiedFrom, frees, closes, freesOrCloses, reclaims}
 use Rattle.rules.specs.Outcome.{does, outcome}
 use Rattle.rules.specs.Sound.{Sound}
 use Rattle.laws.proofs.Tests.{eqb-cases}
@@ -212,10 +212,10 @@ module _ {s : Sizes} {p : Pool} (sound : Sound s p) (ready : Ready p) where
             (eqb-cases a.0 y.0)
 
   reclaims-ready : p .collector .phase ≡ 6 → Ready (reclaims s p .pool)
-  unfolding reclaims reclaim
+  unfolding reclaims freesOrCloses
   reclaims-ready e = by-number (reclaimed s p .0) refl (reclaimed-passes s p)
     where
-      by-number : (k : ℕ) → reclaimed s p .0 ≡ k → (reclaimed s p .0 ≡ 0) ⊎ ((passes s p (reclaimed s p) ≡ true) × (1 ≤ reclaimed s p .0) × (reclaimed s p .0 ≤ s .n)) → Ready (reclaim s p k .pool)
+      by-number : (k : ℕ) → reclaimed s p .0 ≡ k → (reclaimed s p .0 ≡ 0) ⊎ ((passes s p (reclaimed s p) ≡ true) × (1 ≤ reclaimed s p .0) × (reclaimed s p .0 ≤ s .n)) → Ready (freesOrCloses s p k .pool)
       by-number zero f x = closes-ready
       by-number (suc i) f (inl z) = absurd (omega arith)
       by-number (suc i) f (inr x) =

@@ -20,7 +20,7 @@ use Rattle.rules.specs.declared.LinkNumber.{LinkNumber}
 use Rattle.rules.specs.declared.Collector.{Collector}
 use Rattle.rules.specs.Size.{links, linkNumber}
 use Rattle.rules.specs.Pool.{Entry, Pool, none, valueAt, snoopsAt, registersAt, logAt, withHeld, withSnoop, withLog, withHistory, withChanged}
-use Rattle.rules.specs.Collect.{phaseAfter, lastOf, onward, opens, snoops, madeBy, takes, noEntry, entryHere, clears, heldBy, scans, falls, rises, counted, counts, passes, reclaimed, emptied, emptiedFrom, frees, closes, reclaim, reclaims, collects}
+use Rattle.rules.specs.Collect.{phaseAfter, lastOf, onward, opens, snoops, madeBy, takes, noEntry, entryHere, clears, heldBy, scans, falls, rises, counted, counts, passes, reclaimed, emptied, emptiedFrom, frees, closes, freesOrCloses, reclaims, collects}
 use Rattle.rules.specs.Sound.{Each, Sound}
 use Rattle.laws.proofs.Number.{record-same, link-inside}
 use Rattle.laws.proofs.Lists.{Each-at}
@@ -257,13 +257,13 @@ module _ {s : Sizes} {p : Pool} (sound : Sound s p) (state : State s p) where
         }
 
     reclaims-kept : State s (reclaims s p .pool)
-    unfolding reclaims reclaim
+    unfolding reclaims freesOrCloses
     reclaims-kept = by-number (found .0) refl (reclaimed-passes s p)
       where
         found : RecordNumber
         found = reclaimed s p
 
-        by-number : (k : ℕ) → found .0 ≡ k → (found .0 ≡ 0) ⊎ ((passes s p found ≡ true) × (1 ≤ found .0) × (found .0 ≤ s .n)) → State s (reclaim s p k .pool)
+        by-number : (k : ℕ) → found .0 ≡ k → (found .0 ≡ 0) ⊎ ((passes s p found ≡ true) × (1 ≤ found .0) × (found .0 ≤ s .n)) → State s (freesOrCloses s p k .pool)
         by-number zero f x = closes-kept
         by-number (suc i) f (inl z) = absurd (omega arith)
         by-number (suc i) f (inr x) =

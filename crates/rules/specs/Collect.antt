@@ -167,12 +167,12 @@ closes p =
     (withCandidate (zipWith (λ c n. c && eqb n 0) (p .records .candidate) (p .records .count)) p))
 
 -- "Phase 6: free the lowest .. Phase 6 stays. If none passes: .."
-unfoldable pub reclaim : Sizes → Pool → ℕ → Outcome
-reclaim s p zero = stepped (closes p)
-reclaim s p (suc i) = record { answer = Freed (record { 0 = suc i }); pool = frees s (record { 0 = suc i }) p }
+unfoldable pub freesOrCloses : Sizes → Pool → ℕ → Outcome
+freesOrCloses s p zero = stepped (closes p)
+freesOrCloses s p (suc i) = record { answer = Freed (record { 0 = suc i }); pool = frees s (record { 0 = suc i }) p }
 
 unfoldable pub reclaims : Sizes → Pool → Outcome
-reclaims s p = reclaim s p (reclaimed s p .0)
+reclaims s p = freesOrCloses s p (reclaimed s p .0)
 
 -- ---- the collect event
 

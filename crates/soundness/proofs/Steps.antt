@@ -17,7 +17,7 @@ use Rattle.rules.specs.declared.RecordNumber.{RecordNumber}
 use Rattle.rules.specs.declared.Collector.{Collector}
 use Rattle.rules.specs.Pool.{Entry, Pool, registersAt, logAt, withHeld, withChanged, withSnoop, withLog, withHistory}
 use Rattle.rules.specs.Collect.{phaseAfter, lastOf, onward, opens, snoops, madeBy, takes, entryHere, clears, heldBy, scans, falls, rises, counted, counts}
-use Rattle.rules.specs.Collect.{passes, reclaimed, emptied, frees, closes, reclaim, reclaims, collects}
+use Rattle.rules.specs.Collect.{passes, reclaimed, emptied, frees, closes, freesOrCloses, reclaims, collects}
 use Rattle.rules.specs.Sound.{Sound, emptyIn, entriesIn, positions, uncleared, uncounted}
 use Rattle.laws.proofs.Number.{record-same}
 use Rattle.laws.proofs.Change.{emptied-keeps}
@@ -177,7 +177,7 @@ module _ {s : Sizes} {p : Pool} (worker : 0 < s .w) (h : Sound s p) where
       (subst (λ (n : ℕ). Core s (frees s a p) (unclearedIn n here (p .history)) (uncountedIn n here (p .history))) (sym e) c)
 
   reclaims-sound : p .collector .phase ≡ 6 → Sound s (reclaims s p .pool)
-  unfolding reclaims reclaim
+  unfolding reclaims freesOrCloses
   reclaims-sound e = by-number (found .0) refl (reclaimed-passes s p)
     where
       found : RecordNumber
@@ -186,7 +186,7 @@ module _ {s : Sizes} {p : Pool} (worker : 0 < s .w) (h : Sound s p) where
       c : Core s p [] []
       c = core-in h 6 e
 
-      by-number : (k : ℕ) → found .0 ≡ k → (found .0 ≡ 0) ⊎ ((passes s p found ≡ true) × (1 ≤ found .0) × (found .0 ≤ s .n)) → Sound s (reclaim s p k .pool)
+      by-number : (k : ℕ) → found .0 ≡ k → (found .0 ≡ 0) ⊎ ((passes s p found ≡ true) × (1 ≤ found .0) × (found .0 ≤ s .n)) → Sound s (freesOrCloses s p k .pool)
       by-number zero f x = closes-sound c (empty-in h 6 e tt)
       by-number (suc i) f (inl z) = absurd (omega arith)
       by-number (suc i) f (inr x) =

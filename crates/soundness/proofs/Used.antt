@@ -25,7 +25,7 @@ use Rattle.rules.specs.Size.{inRange}
 use Rattle.rules.specs.Pool.{Pool, ofRecord, withRecord, usedAt, fresh}
 use Rattle.rules.specs.Reply.{refusalNumber, number, value, Outcome}
 use Rattle.rules.specs.Worker.{chosen, makes, moves, drops, loads, added, stores}
-use Rattle.rules.specs.Collect.{onward, stepped, opens, snoops, madeBy, takes, clears, scans, falls, rises, counted, counts, passes, reclaimed, emptied, emptiedFrom, frees, closes, reclaim, reclaims, collects}
+use Rattle.rules.specs.Collect.{onward, stepped, opens, snoops, madeBy, takes, clears, scans, falls, rises, counted, counts, passes, reclaimed, emptied, emptiedFrom, frees, closes, freesOrCloses, reclaims, collects}
 use Rattle.rules.specs.Outcome.{refused, does, outcome, answers, after, answersMade, answersFreed, usedAfter, inUse}
 use Rattle.rules.specs.Sound.{Sound}
 use Rattle.laws.proofs.Tests.{eqb-cases, and-left, and-right}
@@ -77,7 +77,7 @@ module _ (s : Sizes) (p : Pool) (h : Sound s p) (a : RecordNumber) (some : 1 ≤
   stepped-told q e = e ∙ sym (ap (λ t. cond t false (usedAt p a)) (ne-eqb 0 a.0 (λ z. omega arith)))
 
   collects-told : Told Collect (collects s p)
-  unfolding opens onward snoops madeBy takes clears scans counted falls rises counts closes reclaim reclaims frees emptied usedAfter answersMade answersFreed value
+  unfolding opens onward snoops madeBy takes clears scans counted falls rises counts closes freesOrCloses reclaims frees emptied usedAfter answersMade answersFreed value
   collects-told =
       by-phase s p (Told Collect) (h .phase)
       (λ e. stepped-told (opens s p .pool) refl)
@@ -88,7 +88,7 @@ module _ (s : Sizes) (p : Pool) (h : Sound s p) (a : RecordNumber) (some : 1 ≤
       (λ e. stepped-told (counts s p .pool) refl)
       (λ e. by-number (reclaimed s p .0) refl (reclaimed-passes s p))
     where
-      by-number : (k : ℕ) → reclaimed s p .0 ≡ k → (reclaimed s p .0 ≡ 0) ⊎ ((passes s p (reclaimed s p) ≡ true) × (1 ≤ reclaimed s p .0) × (reclaimed s p .0 ≤ s .n)) → Told Collect (reclaim s p k)
+      by-number : (k : ℕ) → reclaimed s p .0 ≡ k → (reclaimed s p .0 ≡ 0) ⊎ ((passes s p (reclaimed s p) ≡ true) × (1 ≤ reclaimed s p .0) × (reclaimed s p .0 ≤ s .n)) → Told Collect (freesOrCloses s p k)
       by-number zero f x = stepped-told (closes p) refl
       by-number (suc i) f (inl z) = absurd (omega arith)
       by-number (suc i) f (inr x) =
@@ -159,7 +159,7 @@ module _ (s : Sizes) (p : Pool) (h : Sound s p) (a : RecordNumber) where
   made-was-free Collect = λ z. absurd (true≢false (sym z))
 
   pub freed-was-used : (e : Event) → 1 ≤ a .0 → answersFreed a e (outcome s p e .answer) ≡ true → usedAt p a ≡ true
-  unfolding outcome does answersFreed value opens snoops takes clears scans counts reclaims reclaim
+  unfolding outcome does answersFreed value opens snoops takes clears scans counts reclaims freesOrCloses
   freed-was-used (Make w r) some = λ z. absurd (true≢false (sym z))
   freed-was-used (Move w r q) some = λ z. absurd (true≢false (sym z))
   freed-was-used (Drop w r) some = λ z. absurd (true≢false (sym z))
@@ -176,7 +176,7 @@ module _ (s : Sizes) (p : Pool) (h : Sound s p) (a : RecordNumber) where
       stepped : eqb 0 (a .0) ≡ true → usedAt p a ≡ true
       stepped z = absurd (let e = eqb-true 0 a.0 z in omega arith)
 
-      by-number : (k : ℕ) → reclaimed s p .0 ≡ k → (reclaimed s p .0 ≡ 0) ⊎ ((passes s p (reclaimed s p) ≡ true) × (1 ≤ reclaimed s p .0) × (reclaimed s p .0 ≤ s .n)) → Was (reclaim s p k)
+      by-number : (k : ℕ) → reclaimed s p .0 ≡ k → (reclaimed s p .0 ≡ 0) ⊎ ((passes s p (reclaimed s p) ≡ true) × (1 ≤ reclaimed s p .0) × (reclaimed s p .0 ≤ s .n)) → Was (freesOrCloses s p k)
       by-number zero f x = stepped
       by-number (suc i) f (inl z) = absurd (omega arith)
       by-number (suc i) f (inr x) = λ z.
