@@ -5,7 +5,7 @@
 --     apart-register, apart-made, apart-stored, apart-collected     the events
 --     two-workers-share-nothing   at each place of a run from the fresh pool
 -- Assumes nothing.
-use Prim.Native.Nat.{ℕ, zero, suc, _≤_, _<_}
+use Prim.Native.Nat.{ℕ, _≤_, _<_}
 use mathlib.Core.Path.{_≡_, refl, sym, ap, _∙_, subst}
 use mathlib.Core.Logic.{_⊎_, inl, inr, ⊎-elim}
 use mathlib.Core.Bool.{true, false, true≢false}
@@ -21,7 +21,7 @@ use Rattle.rules.specs.declared.Event.the-variants.{Make, Move, Drop, Load, Sto
 use Rattle.rules.specs.Size.{inRange, linkNumber}
 use Rattle.rules.specs.Pool.{Pool, none, usedAt, valueAt, registerAt, withRegister, fresh}
 use Rattle.rules.specs.Worker.{chosen, makes, moves, drops, loads, added, stores}
-use Rattle.rules.specs.Collect.{onward, opens, snoops, madeBy, takes, clears, scans, falls, rises, counted, counts, emptied, frees, closes, freesOrCloses, reclaimed, reclaims, collects}
+use Rattle.rules.specs.Collect.{onward, opens, snoops, madeBy, takes, clears, scans, falls, rises, counted, counts, emptied, frees, closes, freesOrCloses, reclaims, collects}
 use Rattle.rules.specs.Outcome.{does, outcome, after}
 use Rattle.rules.specs.Sound.{Sound}
 use Rattle.laws.proofs.Number.{record-same, link-apart}
@@ -29,6 +29,7 @@ use Rattle.laws.proofs.Lists.{set-cases}
 use Rattle.laws.proofs.Chosen.{chosen-free}
 use Rattle.laws.proofs.Change.{stored-has, emptied-keeps, emptied-values}
 use Rattle.laws.proofs.Refusals.{LinkThere, decided, can-make, can-load, can-store}
+use Rattle.laws.proofs.Search.{reclaims-cases}
 use Rattle.laws.proofs.Phases.{by-phase}
 use Rattle.soundness.proofs.Fresh.{nothing-held}
 use Rattle.promises.specs.Reach.{Reaches, holds, leads}
@@ -174,15 +175,12 @@ collected s p h =
     (λ e. record { registers = λ v r. refl; values = λ l. inl refl })
     (λ e. record { registers = λ v r. refl; values = λ l. inl refl })
     (λ e. record { registers = λ v r. refl; values = λ l. inl refl })
-    (λ e. by-number (reclaimed s p .0))
-  where
-    by-number : (k : ℕ) → Shrunk p (freesOrCloses s p k .pool)
-    by-number zero = record { registers = λ v r. refl; values = λ l. inl refl }
-    by-number (suc i) =
-        record {
-          registers = λ v r. ap (λ ws. getD (getD (ws .registers) v []) r none) (emptied-keeps (λ q. q .workers) (λ l q. refl) s (record { 0 = suc i }) 0 (s .k) p);
-          values = λ l. emptied-values s (record { 0 = suc i }) 0 (s .k) p l;
-        }
+    (λ e.
+    reclaims-cases s p (λ o. Shrunk p (o .pool)) (λ z. record { registers = λ v r. refl; values = λ l. inl refl }) (λ y some low pass.
+    record {
+      registers = λ v r. ap (λ ws. getD (getD (ws .registers) v []) r none) (emptied-keeps (λ q. q .workers) (λ l q. refl) s y 0 (s .k) p);
+      values = λ l. emptied-values s y 0 (s .k) p l;
+    }))
 
 apart-collected : {s : Sizes} {p : Pool} → Sound s p → Apart s p → Apart s (collects s p .pool)
 apart-collected {s} {p} sound =

@@ -11,7 +11,7 @@
 -- Assumes nothing.
 use Prim.Native.Nat.{ℕ, zero, suc, _-_, _≤_, _<_, zero-le}
 use mathlib.Core.Path.{_≡_, refl, sym, ap, _∙_, subst}
-use mathlib.Core.Logic.{_⊎_, inl, inr, ⊎-elim}
+use mathlib.Core.Logic.{inl, ⊎-elim}
 use mathlib.Core.Bool.{Bool, true, false, cond, not, _&&_, true≢false}
 use mathlib.Core.List.{List, [], _∷_, _++_}
 use native.Mathlib.Omega.{arith}
@@ -31,17 +31,17 @@ use Rattle.rules.specs.Pool.{Entry, Pool, none, countAt, valueAt, changedAt, re
 use Rattle.rules.specs.View.{times, oldIn, lookUp, viewValue}
 use Rattle.rules.specs.Reply.{value, Outcome}
 use Rattle.rules.specs.Worker.{makes, moves, drops, loads, added, stores}
-use Rattle.rules.specs.Collect.{phaseAfter, lastOf, stepped, opens, snoops, madeBy, takes, noEntry, entryHere, clears, heldBy, scans, falls, rises, counted, counts, passes, reclaimed, emptied, frees, closes, freesOrCloses, reclaims}
+use Rattle.rules.specs.Collect.{phaseAfter, lastOf, stepped, opens, snoops, madeBy, takes, noEntry, entryHere, clears, heldBy, scans, falls, rises, counted, counts, emptied, frees, closes, reclaims}
 use Rattle.rules.specs.Outcome.{refused, does, outcome, after}
 use Rattle.rules.specs.Sound.{Sound, uncleared, tally}
 use Rattle.laws.proofs.Tests.{eqb-cases, and-left, and-right, bit-on}
-use Rattle.laws.proofs.Number.{record-same, link-same, link-inside}
+use Rattle.laws.proofs.Number.{link-same, link-inside}
 use Rattle.laws.proofs.Lists.{set-cases}
 use Rattle.laws.proofs.Entries.{times-one, times-from, oldIn-absent, oldIn-there}
 use Rattle.laws.proofs.LookUp.{view-unmarked}
 use Rattle.laws.proofs.Tally.{tally-same}
 use Rattle.laws.proofs.Change.{stored-has, emptied-keeps, emptied-other, emptied-none}
-use Rattle.laws.proofs.Search.{Passed, passed, reclaimed-passes}
+use Rattle.laws.proofs.Search.{Passed, reclaims-cases}
 use Rattle.laws.proofs.Refusals.{decided-outcome, can-store}
 use Rattle.laws.proofs.Phases.{by-phase, moved, onward-cases, after-snooping, after-taking, after-clearing, after-scanning, after-counting}
 use Rattle.soundness.proofs.Core.{Core, core, core-in, position-in, empty-in, unclearedIn}
@@ -51,7 +51,7 @@ use Rattle.soundness.proofs.Clear.{from-here}
 use Rattle.soundness.proofs.Known.{entry-below, link-below}
 use Rattle.soundness.proofs.Fresh.{unmarked, empty}
 use Rattle.soundness.proofs.Kept.{fresh-is-sound, event-keeps-sound}
-use Rattle.promises.specs.Seen.{cleared, isLinkOf, emptiedBy, seenAfter, lastSeen}
+use Rattle.promises.specs.Seen.{cleared, isLinkOf, isLinkOfNumber, emptiedBy, seenAfter, lastSeen}
 
 -- what the collector last saw of a link of a pool
 abbrev pub seenIn : Pool → LinkNumber → RecordNumber
@@ -70,6 +70,10 @@ is-link : (s : Sizes) (a : RecordNumber) (l : LinkNumber) (g : ℕ) → g < s .k
 unfolding linkNumber
 is-link s a l g k e =
     λ j. le-leb (linkNumber s a 0 .0) l.0 (omega arith) j && lt-ltb l.0 (linkNumber s a (s .k) .0) (omega arith) j
+
+link-of-number : (s : Sizes) (i : ℕ) → 1 ≤ i → (l : LinkNumber) → isLinkOfNumber s i l ≡ isLinkOf s (record { 0 = i }) l
+link-of-number s zero h l = absurd (omega arith)
+link-of-number s (suc i) h l = refl
 
 -- a refusal empties nothing
 refused-empties : (s : Sizes) (why : Refusal) (e : Event) (l : LinkNumber) → emptiedBy s e (Refused why) l ≡ false
@@ -315,16 +319,10 @@ module _ {s : Sizes} {p : Pool} (sound : Sound s p) (seen : LinkNumber → Recor
   closes-sees e = quiet Collect (stepped (closes p)) (λ l. refl) (record { marks = λ l h. h; same = λ l h. sym (seen-in 6 e l) })
 
   reclaims-sees : p .collector .phase ≡ 6 → Sees Collect (reclaims s p)
-  unfolding emptiedBy value reclaims freesOrCloses
-  reclaims-sees e = by-number (reclaimed s p .0) refl (reclaimed-passes s p)
-    where
-      by-number : (k : ℕ) → reclaimed s p .0 ≡ k → (reclaimed s p .0 ≡ 0) ⊎ ((passes s p (reclaimed s p) ≡ true) × (1 ≤ reclaimed s p .0) × (reclaimed s p .0 ≤ s .n)) → Sees Collect (freesOrCloses s p k)
-      by-number zero f x = closes-sees e
-      by-number (suc i) f (inl z) = absurd (omega arith)
-      by-number (suc i) f (inr x) =
-          let y : RecordNumber = record { 0 = suc i } in
-          let pass : passes s p y ≡ true = subst (λ (b : RecordNumber). passes s p b ≡ true) (record-same (reclaimed s p) y f) (x .0) in
-          frees-sees e y (omega arith) (omega (arith, x .2)) (passed s p y pass)
+  unfolding emptiedBy value
+  reclaims-sees e =
+      reclaims-cases s p (Sees Collect) (λ z. closes-sees e) (λ y some low pass l h.
+      ap (λ b. cond (cleared p (frees s y p) l) (valueAt p l) (cond b none (seen l))) (link-of-number s y.0 some l) ∙ frees-sees e y some low pass l h)
 
   -- ---- every event
 

@@ -14,7 +14,7 @@
 -- Assumes nothing.
 use Prim.Native.Nat.{ℕ, zero, suc, _≤_, _<_, zero-le}
 use mathlib.Core.Path.{_≡_, refl, sym, ap, _∙_, subst}
-use mathlib.Core.Logic.{_⊎_, inl, inr, ⊎-elim}
+use mathlib.Core.Logic.{_⊎_, ⊎-elim}
 use mathlib.Core.Bool.{Bool, true, false, _||_, true≢false}
 use mathlib.Core.List.{List, [], _∷_}
 use native.Mathlib.Omega.{arith}
@@ -32,7 +32,7 @@ use Rattle.rules.specs.Pool.{Pool, none, ofRecord, fresh, countAt, makerAt, val
 use Rattle.rules.specs.View.{times, oldIn, allLogs, viewValue}
 use Rattle.rules.specs.Reply.{value, Outcome}
 use Rattle.rules.specs.Worker.{makes, moves, drops, loads, added, stores}
-use Rattle.rules.specs.Collect.{phaseAfter, onward, stepped, opens, snoops, madeBy, takes, clears, scans, falls, rises, counted, counts, passes, reclaimed, emptied, emptiedFrom, frees, closes, freesOrCloses, reclaims, collects}
+use Rattle.rules.specs.Collect.{phaseAfter, onward, stepped, opens, snoops, madeBy, takes, clears, scans, falls, rises, counted, counts, reclaimed, emptied, emptiedFrom, frees, closes, reclaims, collects}
 use Rattle.rules.specs.Outcome.{answersFreed, refused, does, outcome, answers, after}
 use Rattle.rules.specs.Sound.{Each, Sound}
 use Rattle.laws.proofs.Tests.{bit-off}
@@ -43,7 +43,7 @@ use Rattle.laws.proofs.LookUp.{lookUp-keeps, view-marked, view-unmarked}
 use Rattle.laws.proofs.Tally.{tally-found}
 use Rattle.laws.proofs.Change.{stored-has, emptied-keeps, emptied-values, emptied-other, emptied-none}
 use Rattle.laws.proofs.Marks.{on-low}
-use Rattle.laws.proofs.Search.{Passed, passes-all, reclaimed-passes, reclaimed-none}
+use Rattle.laws.proofs.Search.{Passed, passes-all, reclaimed-none, reclaims-cases}
 use Rattle.laws.proofs.Refusals.{LinkThere, decided-outcome, can-make, can-load, can-store}
 use Rattle.laws.proofs.Phases.{by-phase, onward-cases, phase-goes-up}
 use Rattle.soundness.proofs.Core.{core-in}
@@ -222,17 +222,12 @@ module _ {s : Sizes} {p₀ p : Pool} {R : RecordNumber → Type 0} (reached : Re
   here = p .collector .position
 
   reclaims-goes-on : p .collector .phase ≡ 6 → Goes-on Collect (reclaims s p)
-  unfolding reclaims freesOrCloses closes answersFreed value
-  reclaims-goes-on e = by-number (reclaimed s p .0) refl (reclaimed-passes s p)
-    where
-      by-number : (k : ℕ) → reclaimed s p .0 ≡ k → (reclaimed s p .0 ≡ 0) ⊎ ((passes s p (reclaimed s p) ≡ true) × (1 ≤ reclaimed s p .0) × (reclaimed s p .0 ≤ s .n)) → Goes-on Collect (freesOrCloses s p k)
-      by-number zero f x = λ open-still. absurd (open-still refl)
-      by-number (suc i) f (inl z) = absurd (omega arith)
-      by-number (suc i) f (inr x) = λ open-still.
-          let y : RecordNumber = record { 0 = suc i } in
-          subst (λ c. Remains s p₀ (frees s y p) (λ z. R z × (eqb (y .0) (z .0) ≡ false)) (c .phase) (c .position)) (sym (frees-collector s y p))
-          (subst (λ (k : ℕ). Remains s p₀ (frees s y p) (λ z. R z × (eqb (y .0) (z .0) ≡ false)) k here) (sym e)
-          (frees-remains (reached .sound) (remains-in (reached .sound) h 6 e) y (omega arith) (omega (arith, x .2))))
+  unfolding closes answersFreed value
+  reclaims-goes-on e =
+      reclaims-cases s p (Goes-on Collect) (λ z open-still. absurd (open-still refl)) (λ y some low pass open-still.
+      subst (λ c. Remains s p₀ (frees s y p) (λ z. R z × (eqb (y .0) (z .0) ≡ false)) (c .phase) (c .position)) (sym (frees-collector s y p))
+      (subst (λ (k : ℕ). Remains s p₀ (frees s y p) (λ z. R z × (eqb (y .0) (z .0) ≡ false)) k here) (sym e)
+      (frees-remains (reached .sound) (remains-in (reached .sound) h 6 e) y some low)))
 
   stores-goes-on : (w q f r : ℕ) → LinkThere s p w q f → Goes-on (Store w q f r) (stores s w q f r p)
   unfolding stores answersFreed
@@ -281,12 +276,8 @@ module _ (s : Sizes) (p : Pool) (most : p .collector .phase ≤ 6) (open-before 
       (λ h z. absurd (let up = phase-goes-up (suc k) (q .history) in omega arith))
 
   reclaims-closed : p .collector .phase ≡ 6 → Closed (reclaims s p)
-  unfolding reclaims freesOrCloses
-  reclaims-closed e = by-number (reclaimed s p .0) refl
-    where
-      by-number : (k : ℕ) → reclaimed s p .0 ≡ k → Closed (freesOrCloses s p k)
-      by-number zero f z = (e, f)
-      by-number (suc i) f z = absurd (open-before (sym (ap (λ c. c .phase) (frees-collector s (record { 0 = suc i }) p)) ∙ z))
+  reclaims-closed e =
+      reclaims-cases s p Closed (λ f z. (e, f)) (λ y some low pass z. absurd (open-before (sym (ap (λ c. c .phase) (frees-collector s y p)) ∙ z)))
 
   collects-closed : Closed (collects s p)
   unfolding opens snoops takes madeBy clears scans counts counted falls rises

@@ -11,9 +11,9 @@
 --     collected-unreached, freed-unreached     a record that an event frees passed the search, so that nothing keeps it and no worker reaches it
 --     reached-used-after     so what is reached stays used
 -- Assumes nothing.
-use Prim.Native.Nat.{ℕ, zero, suc, _≤_, _<_}
+use Prim.Native.Nat.{ℕ, _≤_, _<_}
 use mathlib.Core.Path.{_≡_, refl, sym, ap, _∙_, subst}
-use mathlib.Core.Logic.{_⊎_, inl, inr, ⊎-elim}
+use mathlib.Core.Logic.{⊎-elim}
 use mathlib.Core.Bool.{Bool, true, false, cond, true≢false}
 use mathlib.Core.List.{List, []}
 use native.Mathlib.Omega.{arith}
@@ -28,13 +28,13 @@ use Rattle.rules.specs.declared.Event.the-variants.{Make, Move, Drop, Load, Sto
 use Rattle.rules.specs.Size.{links, linkNumber}
 use Rattle.rules.specs.Pool.{Pool, none, usedAt, changedAt, registersAt}
 use Rattle.rules.specs.Reply.{value, Outcome}
-use Rattle.rules.specs.Collect.{opens, snoops, takes, clears, scans, counts, passes, reclaimed, freesOrCloses, reclaims, collects}
+use Rattle.rules.specs.Collect.{opens, snoops, takes, clears, scans, counts, freesOrCloses, reclaims, collects}
 use Rattle.rules.specs.Outcome.{answersMade, answersFreed, usedAfter, does, outcome}
 use Rattle.rules.specs.Sound.{Sound}
 use Rattle.laws.proofs.Tests.{below-or-not}
 use Rattle.laws.proofs.Number.{record-same}
 use Rattle.laws.proofs.LookUp.{view-unmarked}
-use Rattle.laws.proofs.Search.{passed, reclaimed-passes}
+use Rattle.laws.proofs.Search.{reclaims-cases}
 use Rattle.laws.proofs.Refusals.{decided-outcome}
 use Rattle.laws.proofs.Phases.{by-phase}
 use Rattle.soundness.proofs.Used.{used-event}
@@ -87,22 +87,12 @@ module _ {s : Sizes} {p : Pool} (sound : Sound s p) (state : State s p) where
   collected-unreached a =
       by-phase s p (Unreached a Collect) (sound .phase)
       (λ e. stepped) (λ e. stepped) (λ e. stepped) (λ e. stepped) (λ e. stepped) (λ e. stepped)
-      (λ e. by-number e (reclaimed s p .0) refl (reclaimed-passes s p))
+      (λ e.
+      reclaims-cases s p (Unreached a Collect) (λ z. stepped) (λ y some low pass z w x.
+      unkept (taken-unnamed sound state e y some low pass .unkept) (subst (Kept s p) (sym (record-same y a (eqb-true y.0 a.0 z))) (reached-kept e w x))))
     where
       stepped : eqb 0 (a .0) ≡ true → (w : ℕ) → Reaches s p w a → ⊥
       stepped z w x = let some = reaches-some x in let e = eqb-true 0 a.0 z in omega arith
-
-      found : RecordNumber
-      found = reclaimed s p
-
-      by-number : p .collector .phase ≡ 6 → (k : ℕ) → found .0 ≡ k → (found .0 ≡ 0) ⊎ ((passes s p found ≡ true) × (1 ≤ found .0) × (found .0 ≤ s .n))
-          → Unreached a Collect (freesOrCloses s p k)
-      by-number e zero f pass = stepped
-      by-number e (suc i) f (inl none-found) = λ z w x. omega arith
-      by-number e (suc i) f (inr pass) = λ z w x.
-          let is-found : found ≡ a = record-same found a (f ∙ eqb-true (suc i) a.0 z) in
-          unkept (taken-unnamed sound state e found (pass .1) (pass .2) (passed s p found (pass .0)) .unkept)
-          (subst (Kept s p) (sym is-found) (reached-kept e w x))
 
   -- no other event frees
   pub freed-unreached : (e : Event) (a : RecordNumber) → Unreached a e (outcome s p e)

@@ -6,7 +6,7 @@
 -- Assumes nothing.
 use Prim.Native.Nat.{ℕ, zero, suc, _+_, _-_, _≤_, _<_}
 use mathlib.Core.Path.{_≡_, refl, sym, ap, _∙_, subst}
-use mathlib.Core.Logic.{_⊎_, inl, inr, ⊎-elim}
+use mathlib.Core.Logic.{inr, ⊎-elim}
 use mathlib.Core.Bool.{true, false, cond, true≢false}
 use mathlib.Core.List.{[], _++_}
 use native.Mathlib.Omega.{arith}
@@ -19,7 +19,7 @@ use Rattle.rules.specs.Size.{linkNumber}
 use Rattle.rules.specs.Pool.{Pool, ofRecord, withRecord, usedAt, countAt, heldAt, candidateAt, makerAt, valueAt, changedAt, logAt, registersAt, withHeld, withSnoop, withLog, withHistory, withChanged, fresh}
 use Rattle.rules.specs.View.{viewValue}
 use Rattle.rules.specs.Worker.{chosen, makes, moves, drops, loads, added, stores}
-use Rattle.rules.specs.Collect.{phaseAfter, lastOf, opens, snoops, madeBy, takes, entryHere, clears, heldBy, scans, falls, rises, counted, counts, passes, reclaimed, emptied, emptiedFrom, frees, closes, freesOrCloses, reclaims}
+use Rattle.rules.specs.Collect.{phaseAfter, lastOf, opens, snoops, madeBy, takes, entryHere, clears, heldBy, scans, falls, rises, counted, counts, emptied, emptiedFrom, frees, closes, reclaims}
 use Rattle.rules.specs.Outcome.{does, outcome}
 use Rattle.rules.specs.Sound.{Sound}
 use Rattle.laws.proofs.Tests.{eqb-cases}
@@ -28,7 +28,7 @@ use Rattle.laws.proofs.Lists.{ofRecord-same, ofRecord-other, withRecord-cases}
 use Rattle.laws.proofs.Chosen.{chosen-low}
 use Rattle.laws.proofs.Change.{stored-has, emptied-keeps}
 use Rattle.laws.proofs.Marks.{on-some, made-other, made-candidate, made-candidate-own, falls-candidate, falls-own, closes-held, closes-stays}
-use Rattle.laws.proofs.Search.{Passed, passed, reclaimed-passes}
+use Rattle.laws.proofs.Search.{Passed, reclaims-cases}
 use Rattle.laws.proofs.Refusals.{decided, can-make, can-store}
 use Rattle.laws.proofs.Phases.{by-phase, moved, onward-cases, after-snooping, after-taking, after-clearing, after-scanning, after-counting}
 use Rattle.soundness.proofs.Core.{Core, core-in}
@@ -212,16 +212,7 @@ module _ {s : Sizes} {p : Pool} (sound : Sound s p) (ready : Ready p) where
             (eqb-cases a.0 y.0)
 
   reclaims-ready : p .collector .phase ≡ 6 → Ready (reclaims s p .pool)
-  unfolding reclaims freesOrCloses
-  reclaims-ready e = by-number (reclaimed s p .0) refl (reclaimed-passes s p)
-    where
-      by-number : (k : ℕ) → reclaimed s p .0 ≡ k → (reclaimed s p .0 ≡ 0) ⊎ ((passes s p (reclaimed s p) ≡ true) × (1 ≤ reclaimed s p .0) × (reclaimed s p .0 ≤ s .n)) → Ready (freesOrCloses s p k .pool)
-      by-number zero f x = closes-ready
-      by-number (suc i) f (inl z) = absurd (omega arith)
-      by-number (suc i) f (inr x) =
-          let y : RecordNumber = record { 0 = suc i } in
-          let pass : passes s p y ≡ true = subst (λ (b : RecordNumber). passes s p b ≡ true) (record-same (reclaimed s p) y f) (x .0) in
-          frees-ready e y (omega arith) (omega (arith, x .2)) (passed s p y pass)
+  reclaims-ready e = reclaims-cases s p (λ o. Ready (o .pool)) (λ z. closes-ready) (frees-ready e)
 
   -- ---- every event
 

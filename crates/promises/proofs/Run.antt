@@ -5,9 +5,9 @@
 --     makes-kept .. stores-kept     the worker events
 --     event-kept, run-kept          every event, and a run
 -- Assumes nothing.
-use Prim.Native.Nat.{ℕ, zero, suc, _≤_, _<_, zero-le}
+use Prim.Native.Nat.{ℕ, suc, _≤_, _<_, zero-le}
 use mathlib.Core.Path.{_≡_, refl, sym, _∙_, subst}
-use mathlib.Core.Logic.{_⊎_, inl, inr}
+use mathlib.Core.Logic.{inl}
 use mathlib.Core.Bool.{Bool, true, false, cond}
 use mathlib.Core.List.{List, [], _++_}
 use native.Mathlib.Omega.{arith}
@@ -20,12 +20,12 @@ use Rattle.rules.specs.declared.LinkNumber.{LinkNumber}
 use Rattle.rules.specs.declared.Collector.{Collector}
 use Rattle.rules.specs.Size.{links, linkNumber}
 use Rattle.rules.specs.Pool.{Entry, Pool, none, valueAt, snoopsAt, registersAt, logAt, withHeld, withSnoop, withLog, withHistory, withChanged}
-use Rattle.rules.specs.Collect.{phaseAfter, lastOf, onward, opens, snoops, madeBy, takes, noEntry, entryHere, clears, heldBy, scans, falls, rises, counted, counts, passes, reclaimed, emptied, emptiedFrom, frees, closes, freesOrCloses, reclaims, collects}
+use Rattle.rules.specs.Collect.{phaseAfter, lastOf, onward, opens, snoops, madeBy, takes, noEntry, entryHere, clears, heldBy, scans, falls, rises, counted, counts, emptied, emptiedFrom, frees, closes, reclaims, collects}
 use Rattle.rules.specs.Sound.{Each, Sound}
-use Rattle.laws.proofs.Number.{record-same, link-inside}
+use Rattle.laws.proofs.Number.{link-inside}
 use Rattle.laws.proofs.Lists.{Each-at}
 use Rattle.laws.proofs.Change.{emptied-keeps, emptied-none}
-use Rattle.laws.proofs.Search.{Passed, passed, reclaimed-passes}
+use Rattle.laws.proofs.Search.{Passed, reclaims-cases}
 use Rattle.laws.proofs.Phases.{by-phase, moved, onward-cases, after-snooping, after-taking, after-clearing, after-scanning, after-counting}
 use Rattle.soundness.proofs.Core.{Core, core-in, position-in, empty-in}
 use Rattle.soundness.proofs.Take.{core-taken, core-made}
@@ -257,19 +257,7 @@ module _ {s : Sizes} {p : Pool} (sound : Sound s p) (state : State s p) where
         }
 
     reclaims-kept : State s (reclaims s p .pool)
-    unfolding reclaims freesOrCloses
-    reclaims-kept = by-number (found .0) refl (reclaimed-passes s p)
-      where
-        found : RecordNumber
-        found = reclaimed s p
-
-        by-number : (k : ℕ) → found .0 ≡ k → (found .0 ≡ 0) ⊎ ((passes s p found ≡ true) × (1 ≤ found .0) × (found .0 ≤ s .n)) → State s (freesOrCloses s p k .pool)
-        by-number zero f x = closes-kept
-        by-number (suc i) f (inl z) = absurd (omega arith)
-        by-number (suc i) f (inr x) =
-            let y : RecordNumber = record { 0 = suc i } in
-            let pass : passes s p y ≡ true = subst (λ (b : RecordNumber). passes s p b ≡ true) (record-same found y f) (x .0) in
-            frees-kept y (omega arith) (omega (arith, x .2)) (passed s p y pass)
+    reclaims-kept = reclaims-cases s p (λ o. State s (o .pool)) (λ z. closes-kept) frees-kept
 
   pub collects-kept : State s (collects s p .pool)
   collects-kept =

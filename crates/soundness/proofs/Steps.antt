@@ -3,9 +3,8 @@
 --     opens-sound .. reclaims-sound     the steps of phases 0 to 6
 --     collects-sound        the collect event
 -- Assumes nothing.
-use Prim.Native.Nat.{ℕ, zero, suc, _≤_, _<_}
+use Prim.Native.Nat.{ℕ, suc, _≤_, _<_}
 use mathlib.Core.Path.{_≡_, refl, sym, ap, _∙_, subst}
-use mathlib.Core.Logic.{_⊎_, inl, inr}
 use mathlib.Core.Bool.{Bool, true, false, cond}
 use mathlib.Core.List.{List, [], _++_}
 use native.Mathlib.Omega.{arith}
@@ -17,11 +16,10 @@ use Rattle.rules.specs.declared.RecordNumber.{RecordNumber}
 use Rattle.rules.specs.declared.Collector.{Collector}
 use Rattle.rules.specs.Pool.{Entry, Pool, registersAt, logAt, withHeld, withChanged, withSnoop, withLog, withHistory}
 use Rattle.rules.specs.Collect.{phaseAfter, lastOf, onward, opens, snoops, madeBy, takes, entryHere, clears, heldBy, scans, falls, rises, counted, counts}
-use Rattle.rules.specs.Collect.{passes, reclaimed, emptied, frees, closes, freesOrCloses, reclaims, collects}
+use Rattle.rules.specs.Collect.{emptied, frees, closes, reclaims, collects}
 use Rattle.rules.specs.Sound.{Sound, emptyIn, entriesIn, positions, uncleared, uncounted}
-use Rattle.laws.proofs.Number.{record-same}
 use Rattle.laws.proofs.Change.{emptied-keeps}
-use Rattle.laws.proofs.Search.{passed, reclaimed-passes}
+use Rattle.laws.proofs.Search.{reclaims-cases}
 use Rattle.laws.proofs.Phases.{by-phase, moved, onward-cases, after-snooping, after-taking, after-clearing, after-scanning, after-counting}
 use Rattle.soundness.proofs.Core.{Core, core-in, position-in, empty-in, sound, core-moved, arrives, unclearedIn, uncountedIn, positionsIn}
 use Rattle.soundness.proofs.Parts.{core-records, core-snoop, length-heldBy}
@@ -177,22 +175,9 @@ module _ {s : Sizes} {p : Pool} (worker : 0 < s .w) (h : Sound s p) where
       (subst (λ (n : ℕ). Core s (frees s a p) (unclearedIn n here (p .history)) (uncountedIn n here (p .history))) (sym e) c)
 
   reclaims-sound : p .collector .phase ≡ 6 → Sound s (reclaims s p .pool)
-  unfolding reclaims freesOrCloses
-  reclaims-sound e = by-number (found .0) refl (reclaimed-passes s p)
-    where
-      found : RecordNumber
-      found = reclaimed s p
-
-      c : Core s p [] []
-      c = core-in h 6 e
-
-      by-number : (k : ℕ) → found .0 ≡ k → (found .0 ≡ 0) ⊎ ((passes s p found ≡ true) × (1 ≤ found .0) × (found .0 ≤ s .n)) → Sound s (freesOrCloses s p k .pool)
-      by-number zero f x = closes-sound c (empty-in h 6 e tt)
-      by-number (suc i) f (inl z) = absurd (omega arith)
-      by-number (suc i) f (inr x) =
-          let a : RecordNumber = record { 0 = suc i } in
-          let pass : passes s p a ≡ true = subst (λ (b : RecordNumber). passes s p b ≡ true) (record-same found a f) (x .0) in
-          frees-sound a e (core-freed s a p c (omega arith) (omega (arith, x .2)) (passed s p a pass))
+  reclaims-sound e =
+      let c : Core s p [] [] = core-in h 6 e in
+      reclaims-cases s p (λ o. Sound s (o .pool)) (λ z. closes-sound c (empty-in h 6 e tt)) (λ y some low pass. frees-sound y e (core-freed s y p c some low pass))
 
   -- ---- the collect event
 

@@ -5,9 +5,9 @@
 --     used-are-made-less-freed     and from the fresh pool
 --     made-was-free, freed-was-used     a make answers a record that was free, and a record freed was used
 -- Assumes nothing.
-use Prim.Native.Nat.{ℕ, zero, suc, _≤_}
+use Prim.Native.Nat.{ℕ, _≤_}
 use mathlib.Core.Path.{_≡_, refl, sym, ap, _∙_}
-use mathlib.Core.Logic.{_⊎_, inl, inr, ⊎-elim}
+use mathlib.Core.Logic.{⊎-elim}
 use mathlib.Core.Bool.{Bool, true, false, cond, _&&_, true≢false}
 use mathlib.Core.List.{List, [], _∷_}
 use native.Mathlib.Omega.{arith}
@@ -25,7 +25,7 @@ use Rattle.rules.specs.Size.{inRange}
 use Rattle.rules.specs.Pool.{Pool, ofRecord, withRecord, usedAt, fresh}
 use Rattle.rules.specs.Reply.{refusalNumber, number, value, Outcome}
 use Rattle.rules.specs.Worker.{chosen, makes, moves, drops, loads, added, stores}
-use Rattle.rules.specs.Collect.{onward, stepped, opens, snoops, madeBy, takes, clears, scans, falls, rises, counted, counts, passes, reclaimed, emptied, emptiedFrom, frees, closes, freesOrCloses, reclaims, collects}
+use Rattle.rules.specs.Collect.{onward, stepped, opens, snoops, madeBy, takes, clears, scans, falls, rises, counted, counts, emptied, frees, closes, freesOrCloses, reclaims, collects}
 use Rattle.rules.specs.Outcome.{refused, does, outcome, answers, after, answersMade, answersFreed, usedAfter, inUse}
 use Rattle.rules.specs.Sound.{Sound}
 use Rattle.laws.proofs.Tests.{eqb-cases, and-left, and-right}
@@ -33,7 +33,7 @@ use Rattle.laws.proofs.Number.{record-same}
 use Rattle.laws.proofs.Lists.{ofRecord-same, ofRecord-other}
 use Rattle.laws.proofs.Chosen.{chosen-low, chosen-free}
 use Rattle.laws.proofs.Change.{stored-has, emptied-keeps}
-use Rattle.laws.proofs.Search.{passed, reclaimed-passes}
+use Rattle.laws.proofs.Search.{reclaims-cases}
 use Rattle.laws.proofs.Refusals.{decided-outcome, can-make}
 use Rattle.laws.proofs.Phases.{by-phase}
 use Rattle.soundness.proofs.Fresh.{ofRecord-all}
@@ -86,16 +86,10 @@ module _ (s : Sizes) (p : Pool) (h : Sound s p) (a : RecordNumber) (some : 1 ≤
       (λ e. stepped-told (clears s p .pool) refl)
       (λ e. stepped-told (scans s p .pool) refl)
       (λ e. stepped-told (counts s p .pool) refl)
-      (λ e. by-number (reclaimed s p .0) refl (reclaimed-passes s p))
-    where
-      by-number : (k : ℕ) → reclaimed s p .0 ≡ k → (reclaimed s p .0 ≡ 0) ⊎ ((passes s p (reclaimed s p) ≡ true) × (1 ≤ reclaimed s p .0) × (reclaimed s p .0 ≤ s .n)) → Told Collect (freesOrCloses s p k)
-      by-number zero f x = stepped-told (closes p) refl
-      by-number (suc i) f (inl z) = absurd (omega arith)
-      by-number (suc i) f (inr x) =
-          let y : RecordNumber = record { 0 = suc i } in
-          let same : emptiedFrom s y 0 (s .k) p .records .used ≡ p .records .used = emptied-keeps (λ q. q .records .used) (λ l q. refl) s y 0 (s .k) p in
-          ap (λ table. ofRecord (withRecord table (y .0) false) (a .0) false) same
-          ∙ used-set (p .records .used) a y false (omega arith) (omega (arith, x .2, h .shaped .records .used))
+      (λ e.
+      reclaims-cases s p (Told Collect) (λ z. stepped-told (closes p) refl) (λ y some-y low pass.
+      ap (λ table. ofRecord (withRecord table (y .0) false) (a .0) false) (emptied-keeps (λ q. q .records .used) (λ l q. refl) s y 0 (s .k) p)
+      ∙ used-set (p .records .used) a y false some-y (omega (arith, h .shaped .records .used))))
 
   stores-told : (w q f r : ℕ) → Told (Store w q f r) (stores s w q f r p)
   unfolding usedAfter answersMade answersFreed stores added
@@ -168,16 +162,11 @@ module _ (s : Sizes) (p : Pool) (h : Sound s p) (a : RecordNumber) where
   freed-was-used Collect some =
       decided-outcome Was p (λ why. stepped) _ _ (λ t.
       by-phase s p Was (h .phase) (λ e. stepped) (λ e. stepped) (λ e. stepped) (λ e. stepped) (λ e. stepped) (λ e. stepped)
-      (λ e. by-number (reclaimed s p .0) refl (reclaimed-passes s p)))
+      (λ e.
+      reclaims-cases s p Was (λ z. stepped) (λ y some-y low pass z. ap (λ (b : RecordNumber). usedAt p b) (sym (record-same y a (eqb-true y.0 a.0 z))) ∙ pass .used)))
     where
       Was : Outcome → Type 0
       Was o = answersFreed a Collect (o .answer) ≡ true → usedAt p a ≡ true
 
       stepped : eqb 0 (a .0) ≡ true → usedAt p a ≡ true
       stepped z = absurd (let e = eqb-true 0 a.0 z in omega arith)
-
-      by-number : (k : ℕ) → reclaimed s p .0 ≡ k → (reclaimed s p .0 ≡ 0) ⊎ ((passes s p (reclaimed s p) ≡ true) × (1 ≤ reclaimed s p .0) × (reclaimed s p .0 ≤ s .n)) → Was (freesOrCloses s p k)
-      by-number zero f x = stepped
-      by-number (suc i) f (inl z) = absurd (omega arith)
-      by-number (suc i) f (inr x) = λ z.
-          ap (λ (b : RecordNumber). usedAt p b) (sym (record-same (reclaimed s p) a (f ∙ eqb-true (suc i) a.0 z))) ∙ passed s p (reclaimed s p) (x .0) .used
