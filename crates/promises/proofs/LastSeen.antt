@@ -31,7 +31,7 @@ use Rattle.rules.specs.Pool.{Entry, Pool, none, countAt, valueAt, changedAt, re
 use Rattle.rules.specs.View.{times, oldIn, lookUp, viewValue}
 use Rattle.rules.specs.Reply.{value, Outcome}
 use Rattle.rules.specs.Worker.{makes, moves, drops, loads, added, stores}
-use Rattle.rules.specs.Collect.{phaseAfter, lastOf, stepped, opens, snoops, madeBy, takes, noEntry, entryHere, clears, heldBy, scans, falls, rises, counted, counts, emptied, frees, closes, reclaims}
+use Rattle.rules.specs.Collect.{stepped, opens, snoops, madeBy, takes, noEntry, entryHere, clears, heldBy, scans, falls, rises, counted, counts, emptied, frees, closes, reclaims}
 use Rattle.rules.specs.Outcome.{refused, does, outcome, after}
 use Rattle.rules.specs.Sound.{Sound, uncleared, tally}
 use Rattle.laws.proofs.Tests.{eqb-cases, and-left, and-right, bit-on}
@@ -43,7 +43,7 @@ use Rattle.laws.proofs.Tally.{tally-same}
 use Rattle.laws.proofs.Change.{stored-has, emptied-keeps, emptied-other, emptied-none}
 use Rattle.laws.proofs.Search.{Passed, reclaims-cases}
 use Rattle.laws.proofs.Refusals.{decided-outcome, can-store}
-use Rattle.laws.proofs.Phases.{by-phase, moved, onward-cases, after-snooping, after-taking, after-clearing, after-scanning, after-counting}
+use Rattle.laws.proofs.Phases.{by-phase, moved, snoops-cases, takes-cases, clears-cases, scans-cases, counts-cases}
 use Rattle.soundness.proofs.Core.{Core, core, core-in, position-in, empty-in, unclearedIn}
 use Rattle.soundness.proofs.Store.{view-value, view-after}
 use Rattle.soundness.proofs.Take.{counts-taken}
@@ -155,7 +155,7 @@ module _ {s : Sizes} {p : Pool} (sound : Sound s p) (seen : LinkNumber → Recor
   snoops-sees e =
       let q : Pool = withSnoop here true p in
       quiet Collect (snoops s p) (λ l. refl)
-      (onward-cases Quiet q (s .w) 1 2 e (after-snooping (p .history))
+      (snoops-cases s p Quiet e
       (λ k. arrives-quiet q 1 (suc here) (λ l h. h) (λ l h. sym (seen-in 1 e l)))
       (λ k. arrives-quiet q 2 0 (λ l h. h) (λ l h. ap (λ xs. oldIn l xs (viewValue p l)) (empty-in sound 1 e tt) ∙ sym (seen-in 1 e l))))
 
@@ -163,12 +163,10 @@ module _ {s : Sizes} {p : Pool} (sound : Sound s p) (seen : LinkNumber → Recor
   unfolding emptiedBy value takes madeBy viewValue
   takes-sees e =
       quiet Collect (takes s p) (λ l. refl)
-      (onward-cases Quiet q (s .w) 2 (phaseAfter 2 (q .history)) e refl
+      (takes-cases s p Quiet e
       (λ k. arrives-quiet q 2 (suc here) (λ l h. h) same)
-      (λ k.
-      after-taking (λ next. Quiet (moved next 0 q)) (q .history)
-      (λ f. arrives-quiet q 4 0 (λ l h. h) (λ l h. ap (λ xs. oldIn l xs (viewValue q l)) (sym f) ∙ same l h))
-      (λ x xs f. arrives-quiet q 3 0 (λ l h. h) same)))
+      (λ k some. arrives-quiet q 3 0 (λ l h. h) same)
+      (λ k f. arrives-quiet q 4 0 (λ l h. h) (λ l h. ap (λ xs. oldIn l xs (viewValue q l)) (sym f) ∙ same l h)))
     where
       q : Pool
       q = madeBy here (withLog here [] (withHistory (p .history ++ logAt p here) p))
@@ -181,28 +179,25 @@ module _ {s : Sizes} {p : Pool} (sound : Sound s p) (seen : LinkNumber → Recor
   scans-sees e =
       let q : Pool = withHeld (heldBy (registersAt p here) (p .records .held)) (withSnoop here false p) in
       quiet Collect (scans s p) (λ l. refl)
-      (onward-cases Quiet q (s .w) 4 (phaseAfter 4 (p .history)) e refl
+      (scans-cases s p Quiet e
       (λ k. arrives-quiet q 4 (suc here) (λ l h. h) (λ l h. sym (seen-in 4 e l)))
-      (λ k.
-      after-scanning (λ next. Quiet (moved next 0 q)) (p .history)
-      (λ f. arrives-quiet q 6 0 (λ l h. h) (λ l h. sym (seen-in 4 e l)))
-      (λ x xs f. arrives-quiet q 5 0 (λ l h. h) (λ l h. sym (seen-in 4 e l)))))
+      (λ k some. arrives-quiet q 5 0 (λ l h. h) (λ l h. sym (seen-in 4 e l)))
+      (λ k f. arrives-quiet q 6 0 (λ l h. h) (λ l h. sym (seen-in 4 e l))))
 
   counts-sees : p .collector .phase ≡ 5 → Sees Collect (counts s p)
   unfolding emptiedBy value counts counted falls rises viewValue
   counts-sees e =
-      let n : ℕ = length (p .history) in
-      let q : Pool = withHistory (cond (lastOf n p) [] (p .history)) (counted (entryHere p) p) in
+      let q : Pool = counted (entryHere p) p in
       quiet Collect (counts s p) (λ l. refl)
-      (onward-cases Quiet q n 5 6 e (after-counting (q .history))
-      (λ k. arrives-quiet q 5 (suc here) (λ l h. h) (λ l h. sym (seen-in 5 e l)))
-      (λ k. arrives-quiet q 6 0 (λ l h. h) (λ l h. sym (seen-in 5 e l))))
+      (counts-cases s p Quiet e
+      (λ k. arrives-quiet (withHistory (p .history) q) 5 (suc here) (λ l h. h) (λ l h. sym (seen-in 5 e l)))
+      (λ k. arrives-quiet (withHistory [] q) 6 0 (λ l h. h) (λ l h. sym (seen-in 5 e l))))
 
   -- phase 3 sees the value of the link whose mark it clears
   clears-sees : p .collector .phase ≡ 3 → Sees Collect (clears s p)
   unfolding emptiedBy value clears uncleared viewValue
   clears-sees e =
-      onward-cases (λ t. (l : LinkNumber) → l .0 < links s → cond (cleared p t l) (valueAt p l) (seen l) ≡ seenIn t l) q (length (p .history)) 3 4 e (after-clearing (p .history))
+      clears-cases s p (λ t. (l : LinkNumber) → l .0 < links s → cond (cleared p t l) (valueAt p l) (seen l) ≡ seenIn t l) e
       (λ k. at-place 3 (suc here) refl)
       (λ k. at-place 4 0 (drop-of-length-le (p .history) k))
     where

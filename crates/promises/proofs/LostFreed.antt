@@ -32,7 +32,7 @@ use Rattle.rules.specs.Pool.{Pool, none, ofRecord, fresh, countAt, makerAt, val
 use Rattle.rules.specs.View.{times, oldIn, allLogs, viewValue}
 use Rattle.rules.specs.Reply.{value, Outcome}
 use Rattle.rules.specs.Worker.{makes, moves, drops, loads, added, stores}
-use Rattle.rules.specs.Collect.{phaseAfter, onward, stepped, opens, snoops, madeBy, takes, clears, scans, falls, rises, counted, counts, reclaimed, emptied, emptiedFrom, frees, closes, reclaims, collects}
+use Rattle.rules.specs.Collect.{opens, snoops, takes, clears, scans, falls, counts, reclaimed, emptied, emptiedFrom, frees, closes, reclaims, collects}
 use Rattle.rules.specs.Outcome.{answersFreed, refused, does, outcome, answers, after}
 use Rattle.rules.specs.Sound.{Each, Sound}
 use Rattle.laws.proofs.Tests.{bit-off}
@@ -45,7 +45,7 @@ use Rattle.laws.proofs.Change.{stored-has, emptied-keeps, emptied-values, empti
 use Rattle.laws.proofs.Marks.{on-low}
 use Rattle.laws.proofs.Search.{Passed, passes-all, reclaimed-none, reclaims-cases}
 use Rattle.laws.proofs.Refusals.{LinkThere, decided-outcome, can-make, can-load, can-store}
-use Rattle.laws.proofs.Phases.{by-phase, onward-cases, phase-goes-up}
+use Rattle.laws.proofs.Phases.{by-phase, snoops-cases, takes-cases, clears-cases, scans-cases, counts-cases}
 use Rattle.soundness.proofs.Core.{core-in}
 use Rattle.promises.specs.Reach.{holds, leads}
 use Rattle.promises.specs.Cycle.{Cycle, ToClose, closing, going-on, freedAmong}
@@ -265,30 +265,26 @@ module _ {s : Sizes} {p₀ p : Pool} {R : RecordNumber → Type 0} (reached : Re
 
 -- what closes a cycle is a step of phase 6 that finds nothing to free
 module _ (s : Sizes) (p : Pool) (most : p .collector .phase ≤ 6) (open-before : p .collector .phase ≡ 0 → ⊥) where
-  abbrev Closed : Outcome → Type 0
-  Closed o = o .pool .collector .phase ≡ 0 → (p .collector .phase ≡ 6) × (reclaimed s p .0 ≡ 0)
+  abbrev In-0 : Pool → Type 0
+  In-0 q = q .collector .phase ≡ 0 → (p .collector .phase ≡ 6) × (reclaimed s p .0 ≡ 0)
 
-  -- a step onward arrives in a phase that is not 0
-  late : (q : Pool) (n k : ℕ) → q .collector .phase ≡ suc k → Closed (stepped (onward n q))
-  late q n k e =
-      onward-cases (λ t. t .collector .phase ≡ 0 → (p .collector .phase ≡ 6) × (reclaimed s p .0 ≡ 0)) q n (suc k) (phaseAfter (suc k) (q .history)) e refl
-      (λ h z. absurd (omega arith))
-      (λ h z. absurd (let up = phase-goes-up (suc k) (q .history) in omega arith))
+  abbrev Closed : Outcome → Type 0
+  Closed o = In-0 (o .pool)
 
   reclaims-closed : p .collector .phase ≡ 6 → Closed (reclaims s p)
   reclaims-closed e =
       reclaims-cases s p Closed (λ f z. (e, f)) (λ y some low pass z. absurd (open-before (sym (ap (λ c. c .phase) (frees-collector s y p)) ∙ z)))
 
   collects-closed : Closed (collects s p)
-  unfolding opens snoops takes madeBy clears scans counts counted falls rises
+  unfolding opens
   collects-closed =
       by-phase s p Closed most
       (λ e z. absurd (open-before e))
-      (λ e. late _ (s .w) 0 e)
-      (λ e. late _ (s .w) 1 e)
-      (λ e. late _ (length (p .history)) 2 e)
-      (λ e. late _ (s .w) 3 e)
-      (λ e. late _ (length (p .history)) 4 e)
+      (λ e. snoops-cases s p In-0 e (λ k z. absurd (omega arith)) (λ k z. absurd (omega arith)))
+      (λ e. takes-cases s p In-0 e (λ k z. absurd (omega arith)) (λ k f z. absurd (omega arith)) (λ k f z. absurd (omega arith)))
+      (λ e. clears-cases s p In-0 e (λ k z. absurd (omega arith)) (λ k z. absurd (omega arith)))
+      (λ e. scans-cases s p In-0 e (λ k z. absurd (omega arith)) (λ k f z. absurd (omega arith)) (λ k f z. absurd (omega arith)))
+      (λ e. counts-cases s p In-0 e (λ k z. absurd (omega arith)) (λ k z. absurd (omega arith)))
       reclaims-closed
 
   -- no other event moves the collector's record

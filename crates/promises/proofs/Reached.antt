@@ -8,7 +8,7 @@
 --     marked-inside      a link whose mark is on has a number below S
 --     reached-kept       in phase 6 what a worker reaches is kept
 --     reaches-some, reached-used     what is reached is a record, and is used
---     collected-unreached, freed-unreached     a record that an event frees passed the search, so that nothing keeps it and no worker reaches it
+--     freed-unreached    a record that an event frees passed the search, so that nothing keeps it and no worker reaches it
 --     reached-used-after     so what is reached stays used
 -- Assumes nothing.
 use Prim.Native.Nat.{ℕ, _≤_, _<_}
@@ -17,27 +17,18 @@ use mathlib.Core.Logic.{⊎-elim}
 use mathlib.Core.Bool.{Bool, true, false, cond, true≢false}
 use mathlib.Core.List.{List, []}
 use native.Mathlib.Omega.{arith}
-use borrow.Author.Tests.{eqb-true}
-use lib.Dec.{eqb}
 use lib.ListN.{length, getD, List·getD-eq-default}
 use Rattle.rules.specs.declared.Sizes.{Sizes}
 use Rattle.rules.specs.declared.RecordNumber.{RecordNumber}
 use Rattle.rules.specs.declared.LinkNumber.{LinkNumber}
 use Rattle.rules.specs.declared.Event.{Event}
-use Rattle.rules.specs.declared.Event.the-variants.{Make, Move, Drop, Load, Store, Collect}
 use Rattle.rules.specs.Size.{links, linkNumber}
 use Rattle.rules.specs.Pool.{Pool, none, usedAt, changedAt, registersAt}
-use Rattle.rules.specs.Reply.{value, Outcome}
-use Rattle.rules.specs.Collect.{opens, snoops, takes, clears, scans, counts, freesOrCloses, reclaims, collects}
-use Rattle.rules.specs.Outcome.{answersMade, answersFreed, usedAfter, does, outcome}
+use Rattle.rules.specs.Outcome.{answersMade, answersFreed, usedAfter, outcome}
 use Rattle.rules.specs.Sound.{Sound}
 use Rattle.laws.proofs.Tests.{below-or-not}
-use Rattle.laws.proofs.Number.{record-same}
 use Rattle.laws.proofs.LookUp.{view-unmarked}
-use Rattle.laws.proofs.Search.{reclaims-cases}
-use Rattle.laws.proofs.Refusals.{decided-outcome}
-use Rattle.laws.proofs.Phases.{by-phase}
-use Rattle.soundness.proofs.Used.{used-event}
+use Rattle.soundness.proofs.Used.{used-event, freed-passed}
 use Rattle.promises.specs.Reach.{Reaches, holds, leads}
 use Rattle.promises.proofs.Invariant.{Used, Kept, by-view, Named}
 use Rattle.promises.proofs.Freeing.{unkept}
@@ -78,32 +69,12 @@ module _ {s : Sizes} {p : Pool} (sound : Sound s p) (state : State s p) where
           subst (Kept s p) h (phased-in sound state 6 e .marked (omega arith) l (marked-inside l on) on (subst (λ (c : RecordNumber). 1 ≤ c .0) (sym h) some))
       by-mark-of y false off = by-view f y k (view-unmarked p l off ∙ h) some
 
-  abbrev Unreached : RecordNumber → Event → Outcome → Type 0
-  Unreached a e o = answersFreed a e (o .answer) ≡ true → (w : ℕ) → Reaches s p w a → ⊥
-
-  -- only the step of phase 6 frees, and what it frees passed the search
-  collected-unreached : (a : RecordNumber) → Unreached a Collect (collects s p)
-  unfolding opens snoops takes clears scans counts reclaims freesOrCloses answersFreed value
-  collected-unreached a =
-      by-phase s p (Unreached a Collect) (sound .phase)
-      (λ e. stepped) (λ e. stepped) (λ e. stepped) (λ e. stepped) (λ e. stepped) (λ e. stepped)
-      (λ e.
-      reclaims-cases s p (Unreached a Collect) (λ z. stepped) (λ y some low pass z w x.
-      unkept (taken-unnamed sound state e y some low pass .unkept) (subst (Kept s p) (sym (record-same y a (eqb-true y.0 a.0 z))) (reached-kept e w x))))
-    where
-      stepped : eqb 0 (a .0) ≡ true → (w : ℕ) → Reaches s p w a → ⊥
-      stepped z w x = let some = reaches-some x in let e = eqb-true 0 a.0 z in omega arith
-
-  -- no other event frees
-  pub freed-unreached : (e : Event) (a : RecordNumber) → Unreached a e (outcome s p e)
-  unfolding outcome does answersFreed value
-  freed-unreached (Make v r) a = λ z w x. true≢false (sym z)
-  freed-unreached (Move v r q) a = λ z w x. true≢false (sym z)
-  freed-unreached (Drop v r) a = λ z w x. true≢false (sym z)
-  freed-unreached (Load v r q f) a = λ z w x. true≢false (sym z)
-  freed-unreached (Store v q f r) a = λ z w x. true≢false (sym z)
-  freed-unreached Collect a =
-      decided-outcome (Unreached a Collect) p (λ why z w x. let some = reaches-some x in let e = eqb-true 0 a.0 z in omega arith) _ _ (λ t. collected-unreached a)
+  -- nothing keeps a record that an event frees, so no worker reaches it
+  pub freed-unreached : (e : Event) (a : RecordNumber) → answersFreed a e (outcome s p e .answer) ≡ true → (w : ℕ) → Reaches s p w a → ⊥
+  freed-unreached e a z w x =
+      let some : 1 ≤ a .0 = reaches-some x in
+      let took = freed-passed s p sound a e some z in
+      unkept (taken-unnamed sound state (took .0) a some (took .1) (took .2) .unkept) (reached-kept (took .0) w x)
 
 -- so what is reached stays used
 pub reached-used-after : {s : Sizes} {p : Pool} → Sound s p → State s p → (e : Event) (a : RecordNumber) (w : ℕ) → Reaches s p w a → usedAt (outcome s p e .pool) a ≡ true

@@ -7,7 +7,7 @@
 use Prim.Native.Nat.{ℕ, zero, suc, _+_, _-_, _≤_, _<_}
 use mathlib.Core.Path.{_≡_, refl, sym, ap, _∙_, subst}
 use mathlib.Core.Logic.{inr, ⊎-elim}
-use mathlib.Core.Bool.{true, false, cond, true≢false}
+use mathlib.Core.Bool.{true, false, true≢false}
 use mathlib.Core.List.{[], _++_}
 use native.Mathlib.Omega.{arith}
 use lib.ListN.{length}
@@ -19,7 +19,7 @@ use Rattle.rules.specs.Size.{linkNumber}
 use Rattle.rules.specs.Pool.{Pool, ofRecord, withRecord, usedAt, countAt, heldAt, candidateAt, makerAt, valueAt, changedAt, logAt, registersAt, withHeld, withSnoop, withLog, withHistory, withChanged, fresh}
 use Rattle.rules.specs.View.{viewValue}
 use Rattle.rules.specs.Worker.{chosen, makes, moves, drops, loads, added, stores}
-use Rattle.rules.specs.Collect.{phaseAfter, lastOf, opens, snoops, madeBy, takes, entryHere, clears, heldBy, scans, falls, rises, counted, counts, emptied, emptiedFrom, frees, closes, reclaims}
+use Rattle.rules.specs.Collect.{opens, snoops, madeBy, takes, entryHere, clears, heldBy, scans, falls, rises, counted, counts, emptied, emptiedFrom, frees, closes, reclaims}
 use Rattle.rules.specs.Outcome.{does, outcome}
 use Rattle.rules.specs.Sound.{Sound}
 use Rattle.laws.proofs.Tests.{eqb-cases}
@@ -30,7 +30,7 @@ use Rattle.laws.proofs.Change.{stored-has, emptied-keeps}
 use Rattle.laws.proofs.Marks.{on-some, made-other, made-candidate, made-candidate-own, falls-candidate, falls-own, closes-held, closes-stays}
 use Rattle.laws.proofs.Search.{Passed, reclaims-cases}
 use Rattle.laws.proofs.Refusals.{decided, can-make, can-store}
-use Rattle.laws.proofs.Phases.{by-phase, moved, onward-cases, after-snooping, after-taking, after-clearing, after-scanning, after-counting}
+use Rattle.laws.proofs.Phases.{by-phase, moved, snoops-cases, takes-cases, clears-cases, scans-cases, counts-cases}
 use Rattle.soundness.proofs.Core.{Core, core-in}
 use Rattle.soundness.proofs.Count.{core-emptied}
 use Rattle.soundness.proofs.Fresh.{ofRecord-all}
@@ -82,22 +82,20 @@ module _ {s : Sizes} {p : Pool} (sound : Sound s p) (ready : Ready p) where
   opens-ready = arrives-ready p 1 0 (omega arith) waits
 
   snoops-ready : p .collector .phase ≡ 1 → Ready (snoops s p .pool)
-  unfolding snoops Waiting
+  unfolding Waiting
   snoops-ready e =
       let q : Pool = withSnoop (p .collector .position) true p in
-      onward-cases Ready q (s .w) 1 2 e (after-snooping (p .history))
+      snoops-cases s p Ready e
       (λ k. arrives-ready q 1 (suc (p .collector .position)) (omega arith) waits)
       (λ k. arrives-ready q 2 0 (omega arith) waits)
 
   takes-ready : p .collector .phase ≡ 2 → Ready (takes s p .pool)
-  unfolding takes madeBy Waiting
+  unfolding madeBy Waiting
   takes-ready e =
-      onward-cases Ready q (s .w) 2 (phaseAfter 2 (q .history)) e refl
+      takes-cases s p Ready e
       (λ k. arrives-ready q 2 (suc here) (omega arith) taken)
-      (λ k.
-      after-taking (λ next. Ready (moved next 0 q)) (q .history)
-      (λ f. arrives-ready q 4 0 (omega arith) taken)
-      (λ x xs f. arrives-ready q 3 0 (omega arith) taken))
+      (λ k some. arrives-ready q 3 0 (omega arith) taken)
+      (λ k f. arrives-ready q 4 0 (omega arith) taken)
     where
       here : ℕ
       here = p .collector .position
@@ -120,36 +118,31 @@ module _ {s : Sizes} {p : Pool} (sound : Sound s p) (ready : Ready p) where
           (eqb-cases (makerAt p a) (here + 1))
 
   clears-ready : p .collector .phase ≡ 3 → Ready (clears s p .pool)
-  unfolding clears Waiting
+  unfolding Waiting
   clears-ready e =
       let q : Pool = withChanged (entryHere p .link) false p in
-      onward-cases Ready q (length (p .history)) 3 4 e (after-clearing (p .history))
+      clears-cases s p Ready e
       (λ k. arrives-ready q 3 (suc (p .collector .position)) (omega arith) waits)
       (λ k. arrives-ready q 4 0 (omega arith) waits)
 
   scans-ready : p .collector .phase ≡ 4 → Ready (scans s p .pool)
-  unfolding scans Waiting
+  unfolding Waiting
   scans-ready e =
       let q : Pool = withHeld (heldBy (registersAt p (p .collector .position)) (p .records .held)) (withSnoop (p .collector .position) false p) in
-      onward-cases Ready q (s .w) 4 (phaseAfter 4 (p .history)) e refl
+      scans-cases s p Ready e
       (λ k. arrives-ready q 4 (suc (p .collector .position)) (omega arith) waits)
-      (λ k.
-      after-scanning (λ next. Ready (moved next 0 q)) (p .history)
-      (λ f. arrives-ready q 6 0 (omega arith) waits)
-      (λ x xs f. arrives-ready q 5 0 (omega arith) waits))
+      (λ k some. arrives-ready q 5 0 (omega arith) waits)
+      (λ k f. arrives-ready q 6 0 (omega arith) waits)
 
   counts-ready : p .collector .phase ≡ 5 → Ready (counts s p .pool)
-  unfolding counts counted falls rises Waiting
+  unfolding counted falls rises Waiting
   counts-ready e =
-      onward-cases Ready q n 5 6 e (after-counting (q .history))
-      (λ k. arrives-ready q 5 (suc (p .collector .position)) (omega arith) counted-waits)
-      (λ k. arrives-ready q 6 0 (omega arith) counted-waits)
+      counts-cases s p Ready e
+      (λ k. arrives-ready (withHistory (p .history) q) 5 (suc (p .collector .position)) (omega arith) counted-waits)
+      (λ k. arrives-ready (withHistory [] q) 6 0 (omega arith) counted-waits)
     where
-      n : ℕ
-      n = length (p .history)
-
       q : Pool
-      q = withHistory (cond (lastOf n p) [] (p .history)) (counted (entryHere p) p)
+      q = counted (entryHere p) p
 
       old : RecordNumber
       old = entryHere p .old

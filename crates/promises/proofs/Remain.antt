@@ -10,7 +10,7 @@
 use Prim.Native.Nat.{ℕ, suc, _+_, _≤_, _<_, zero-le}
 use mathlib.Core.Path.{_≡_, refl, sym, ap, _∙_, subst}
 use mathlib.Core.Logic.{_⊎_, inl, ⊎-elim}
-use mathlib.Core.Bool.{true, false, cond, true≢false}
+use mathlib.Core.Bool.{true, false, true≢false}
 use mathlib.Core.List.{[], _∷_, _++_}
 use native.Mathlib.Omega.{arith}
 use lib.ListN.{length, getD}
@@ -21,7 +21,7 @@ use Rattle.rules.specs.declared.LinkNumber.{LinkNumber}
 use Rattle.rules.specs.Size.{links, linkNumber}
 use Rattle.rules.specs.Pool.{Entry, Pool, none, ofRecord, usedAt, heldAt, makerAt, valueAt, registersAt, registerAt, logAt, withHeld, withChanged, withRegister, withSnoop, withLog, withHistory}
 use Rattle.rules.specs.Worker.{chosen, makes, added, stores}
-use Rattle.rules.specs.Collect.{phaseAfter, lastOf, opens, snoops, madeBy, takes, entryHere, clears, heldBy, scans, falls, rises, counted, counts}
+use Rattle.rules.specs.Collect.{opens, snoops, madeBy, takes, entryHere, clears, heldBy, scans, falls, rises, counted, counts}
 use Rattle.rules.specs.Sound.{Each, Sound}
 use Rattle.laws.proofs.Tests.{eqb-cases}
 use Rattle.laws.proofs.Number.{record-same, link-apart}
@@ -30,7 +30,7 @@ use Rattle.laws.proofs.Chosen.{chosen-free}
 use Rattle.laws.proofs.Change.{stored-has}
 use Rattle.laws.proofs.Marks.{on-some, made-own, made-other, heldBy-other}
 use Rattle.laws.proofs.Refusals.{LinkThere}
-use Rattle.laws.proofs.Phases.{moved, onward-cases, after-snooping, after-taking, after-clearing, after-scanning, after-counting}
+use Rattle.laws.proofs.Phases.{moved, snoops-cases, takes-cases, clears-cases, scans-cases, counts-cases}
 use Rattle.soundness.proofs.Core.{position-in}
 use Rattle.promises.specs.Reach.{Reaches, holds, leads}
 use Rattle.promises.proofs.Invariant.{Named, takenBelow}
@@ -271,23 +271,17 @@ module _ {s : Sizes} {p₀ p : Pool} {R : RecordNumber → Type 0} (sound : Soun
       arrives-remaining h p 1 0 refl refl refl (λ x y. h .left x y .unheld) (λ x y v z. zero-le) (λ x y w z. absurd (omega arith))
 
   pub snoops-remaining : p .collector .phase ≡ 1 → Remaining s p₀ R (snoops s p .pool)
-  unfolding snoops
   snoops-remaining e =
       let h = remains-in 1 e in
       let q : Pool = withSnoop here true p in
-      onward-cases (Remaining s p₀ R) q (s .w) 1 2 e (after-snooping (p .history))
+      snoops-cases s p (Remaining s p₀ R) e
       (λ k. arrives-remaining h q 1 (suc here) refl refl refl (λ x y. h .left x y .unheld) (λ x y v z. zero-le) (λ x y w z. absurd (omega arith)))
       (λ k. arrives-remaining h q 2 0 refl refl refl (λ x y. h .left x y .unheld) (λ x y v z. zero-le) (λ x y w z. absurd (omega arith)))
 
   pub takes-remaining : p .collector .phase ≡ 2 → Remaining s p₀ R (takes s p .pool)
-  unfolding takes madeBy
+  unfolding madeBy
   takes-remaining e =
-      onward-cases (Remaining s p₀ R) q (s .w) 2 (phaseAfter 2 (q .history)) e refl
-      (λ k. arrives 2 (suc here) (omega arith))
-      (λ k.
-      after-taking (λ next. Remaining s p₀ R (moved next 0 q)) (q .history)
-      (λ f. arrives 4 0 k)
-      (λ x xs f. arrives 3 0 k))
+      takes-cases s p (Remaining s p₀ R) e (λ k. arrives 2 (suc here) (omega arith)) (λ k some. arrives 3 0 k) (λ k f. arrives 4 0 k)
     where
       h : Remains s p₀ p R 2 here
       h = remains-in 2 e
@@ -327,23 +321,19 @@ module _ {s : Sizes} {p₀ p : Pool} {R : RecordNumber → Type 0} (sound : Soun
           (λ x y w z. logs x y w (omega arith))
 
   pub clears-remaining : p .collector .phase ≡ 3 → Remaining s p₀ R (clears s p .pool)
-  unfolding clears
   clears-remaining e =
       let h = remains-in 3 e in
       let q : Pool = withChanged (entryHere p .link) false p in
-      onward-cases (Remaining s p₀ R) q (length (p .history)) 3 4 e (after-clearing (p .history))
+      clears-cases s p (Remaining s p₀ R) e
       (λ k. arrives-remaining h q 3 (suc here) refl refl refl (λ x y. h .left x y .unheld) (λ x y. h .left x y .maker) (λ x y. h .left x y .logs))
       (λ k. arrives-remaining h q 4 0 refl refl refl (λ x y. h .left x y .unheld) (λ x y. h .left x y .maker) (λ x y. h .left x y .logs))
 
   pub scans-remaining : p .collector .phase ≡ 4 → Remaining s p₀ R (scans s p .pool)
-  unfolding scans
   scans-remaining e =
-      onward-cases (Remaining s p₀ R) q (s .w) 4 (phaseAfter 4 (p .history)) e refl
+      scans-cases s p (Remaining s p₀ R) e
       (λ k. arrives-remaining h q 4 (suc here) refl refl refl still-unheld (λ x y. h .left x y .maker) (λ x y. h .left x y .logs))
-      (λ k.
-      after-scanning (λ next. Remaining s p₀ R (moved next 0 q)) (p .history)
-      (λ f. arrives-remaining h q 6 0 refl refl refl still-unheld (λ x y. h .left x y .maker) (λ x y. h .left x y .logs))
-      (λ a rest f. arrives-remaining h q 5 0 refl refl refl still-unheld (λ x y. h .left x y .maker) (λ x y. h .left x y .logs)))
+      (λ k some. arrives-remaining h q 5 0 refl refl refl still-unheld (λ x y. h .left x y .maker) (λ x y. h .left x y .logs))
+      (λ k f. arrives-remaining h q 6 0 refl refl refl still-unheld (λ x y. h .left x y .maker) (λ x y. h .left x y .logs))
     where
       h : Remains s p₀ p R 4 here
       h = remains-in 4 e
@@ -359,11 +349,10 @@ module _ {s : Sizes} {p₀ p : Pool} {R : RecordNumber → Type 0} (sound : Soun
           ∙ h .left x y .unheld
 
   pub counts-remaining : p .collector .phase ≡ 5 → Remaining s p₀ R (counts s p .pool)
-  unfolding counts counted falls rises
+  unfolding counted falls rises
   counts-remaining e =
       let h = remains-in 5 e in
-      let n : ℕ = length (p .history) in
-      let q : Pool = withHistory (cond (lastOf n p) [] (p .history)) (counted (entryHere p) p) in
-      onward-cases (Remaining s p₀ R) q n 5 6 e (after-counting (q .history))
-      (λ k. arrives-remaining h q 5 (suc here) refl refl refl (λ x y. h .left x y .unheld) (λ x y. h .left x y .maker) (λ x y. h .left x y .logs))
-      (λ k. arrives-remaining h q 6 0 refl refl refl (λ x y. h .left x y .unheld) (λ x y. h .left x y .maker) (λ x y. h .left x y .logs))
+      let q : Pool = counted (entryHere p) p in
+      counts-cases s p (Remaining s p₀ R) e
+      (λ k. arrives-remaining h (withHistory (p .history) q) 5 (suc here) refl refl refl (λ x y. h .left x y .unheld) (λ x y. h .left x y .maker) (λ x y. h .left x y .logs))
+      (λ k. arrives-remaining h (withHistory [] q) 6 0 refl refl refl (λ x y. h .left x y .unheld) (λ x y. h .left x y .maker) (λ x y. h .left x y .logs))

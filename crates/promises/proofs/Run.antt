@@ -8,10 +8,10 @@
 use Prim.Native.Nat.{ℕ, suc, _≤_, _<_, zero-le}
 use mathlib.Core.Path.{_≡_, refl, sym, _∙_, subst}
 use mathlib.Core.Logic.{inl}
-use mathlib.Core.Bool.{Bool, true, false, cond}
+use mathlib.Core.Bool.{true, false}
 use mathlib.Core.List.{List, [], _++_}
 use native.Mathlib.Omega.{arith}
-use borrow.Author.Tests.{leb-true, leb-false, lt-ltb, le-leb, lt-leb}
+use borrow.Author.Tests.{lt-ltb, le-leb, lt-leb}
 use lib.Dec.{ltb, leb}
 use lib.ListN.{length, drop, set, drop-of-length-le}
 use Rattle.rules.specs.declared.Sizes.{Sizes}
@@ -20,13 +20,13 @@ use Rattle.rules.specs.declared.LinkNumber.{LinkNumber}
 use Rattle.rules.specs.declared.Collector.{Collector}
 use Rattle.rules.specs.Size.{links, linkNumber}
 use Rattle.rules.specs.Pool.{Entry, Pool, none, valueAt, snoopsAt, registersAt, logAt, withHeld, withSnoop, withLog, withHistory, withChanged}
-use Rattle.rules.specs.Collect.{phaseAfter, lastOf, onward, opens, snoops, madeBy, takes, noEntry, entryHere, clears, heldBy, scans, falls, rises, counted, counts, emptied, emptiedFrom, frees, closes, reclaims, collects}
+use Rattle.rules.specs.Collect.{opens, snoops, madeBy, takes, noEntry, entryHere, clears, heldBy, scans, falls, rises, counted, counts, emptied, emptiedFrom, frees, closes, reclaims, collects}
 use Rattle.rules.specs.Sound.{Each, Sound}
 use Rattle.laws.proofs.Number.{link-inside}
 use Rattle.laws.proofs.Lists.{Each-at}
 use Rattle.laws.proofs.Change.{emptied-keeps, emptied-none}
 use Rattle.laws.proofs.Search.{Passed, reclaims-cases}
-use Rattle.laws.proofs.Phases.{by-phase, moved, onward-cases, after-snooping, after-taking, after-clearing, after-scanning, after-counting}
+use Rattle.laws.proofs.Phases.{by-phase, moved, snoops-cases, takes-cases, clears-cases, scans-cases, counts-cases}
 use Rattle.soundness.proofs.Core.{Core, core-in, position-in, empty-in}
 use Rattle.soundness.proofs.Take.{core-taken, core-made}
 use Rattle.soundness.proofs.Clear.{core-cleared}
@@ -62,9 +62,8 @@ module _ {s : Sizes} {p : Pool} (sound : Sound s p) (state : State s p) where
   opens-kept e = arrived 1 0 (state .named) (phased-opened here (phased-in 0 e))
 
   snoops-kept : p .collector .phase ≡ 1 → State s (snoops s p .pool)
-  unfolding snoops
   snoops-kept e =
-      onward-cases (State s) q (s .w) 1 2 e (after-snooping (p .history))
+      snoops-cases s p (State s) e
       (λ k. arrived 1 (suc here) n (phased-none 1 (suc here) (omega arith) refl flags))
       (λ k. arrived 2 0 n (phased-none 2 0 (omega arith) refl (λ w h. flags w h ∙ lt-ltb w (suc here) (omega arith))))
     where
@@ -78,20 +77,18 @@ module _ {s : Sizes} {p : Pool} (sound : Sound s p) (state : State s p) where
       flags = snooped-flags here (omega (arith, sound .shaped .workers .snoop, position-in sound 1 e)) (phased-in 1 e)
 
   takes-kept : p .collector .phase ≡ 2 → State s (takes s p .pool)
-  unfolding takes madeBy
+  unfolding madeBy
   takes-kept e =
-      onward-cases (State s) q (s .w) 2 (phaseAfter 2 (q .history)) e refl
+      takes-cases s p (State s) e
       (λ k. arrived 2 (suc here) n (phased-taken c here worker 2 (suc here) (omega arith) refl (λ v h. refl) (λ four. absurd (omega arith)) x))
-      (λ k.
-      after-taking (λ next. State s (moved next 0 q)) (q .history)
-      (λ f.
+      (λ k some. arrived 3 0 n (phased-taken c here worker 3 0 k refl (λ v h. refl) (λ four. absurd (omega arith)) x))
+      (λ k f.
       arrived 4 0 n
       (phased-taken c here worker 4 0 k refl (λ v h. sym (le-leb 0 v zero-le))
       (λ four.
       marked-kept (subst (λ (xs : List Entry). Core s q xs (q .history)) f (core-made (core-taken c here worker) here))
       (λ w h. logs-taken c here worker x w (omega arith)))
       x))
-      (λ y ys f. arrived 3 0 n (phased-taken c here worker 3 0 k refl (λ v h. refl) (λ four. absurd (omega arith)) x)))
     where
       q : Pool
       q = madeBy here (withLog here [] (withHistory (p .history ++ logAt p here) p))
@@ -109,9 +106,8 @@ module _ {s : Sizes} {p : Pool} (sound : Sound s p) (state : State s p) where
       n = named-taken c here worker (state .named)
 
   clears-kept : p .collector .phase ≡ 3 → State s (clears s p .pool)
-  unfolding clears
   clears-kept e =
-      onward-cases (State s) q (length (p .history)) 3 4 e (after-clearing (p .history))
+      clears-cases s p (State s) e
       (λ k. arrived 3 (suc here) n (phased-cleared c m inside 3 (suc here) (omega arith) (omega arith) refl (λ v h. refl) (λ four. absurd (omega arith)) x))
       (λ k.
       arrived 4 0 n
@@ -141,14 +137,11 @@ module _ {s : Sizes} {p : Pool} (sound : Sound s p) (state : State s p) where
       n = named-cleared c m inside (state .named)
 
   scans-kept : p .collector .phase ≡ 4 → State s (scans s p .pool)
-  unfolding scans
   scans-kept e =
-      onward-cases (State s) q (s .w) 4 (phaseAfter 4 (p .history)) e refl
+      scans-cases s p (State s) e
       (λ k. arrived 4 (suc here) n (phased-scanned c here worker 4 (suc here) (omega arith) (omega arith) (omega arith) flags x))
-      (λ k.
-      after-scanning (λ next. State s (moved next 0 q)) (p .history)
-      (λ f. arrived 6 0 n (phased-scanned c here worker 6 0 (omega arith) (omega arith) k (off k) x))
-      (λ y ys f. arrived 5 0 n (phased-scanned c here worker 5 0 (omega arith) (omega arith) k (off k) x)))
+      (λ k some. arrived 5 0 n (phased-scanned c here worker 5 0 (omega arith) (omega arith) k (off k) x))
+      (λ k f. arrived 6 0 n (phased-scanned c here worker 6 0 (omega arith) (omega arith) k (off k) x))
     where
       q : Pool
       q = withHeld (heldBy (registersAt p here) (p .records .held)) (withSnoop here false p)
@@ -173,43 +166,29 @@ module _ {s : Sizes} {p : Pool} (sound : Sound s p) (state : State s p) where
       off k v h = flags v h ∙ lt-leb (suc here) v (omega arith)
 
   counts-kept : p .collector .phase ≡ 5 → State s (counts s p .pool)
-  unfolding counts counted falls rises
-  counts-kept e = by-place (lastOf n p) refl
+  unfolding counted falls rises
+  counts-kept e =
+      counts-cases s p (State s) e
+      (λ k.
+      let same : (P : Entry → Type 0) → Each P (p .history) → Each P (p .history) = λ P h. h in
+      arrived 5 (suc here) (named-counted s p entry (p .history) same used (state .named))
+      (phased-counted s p entry (p .history) same 5 (suc here) (omega arith) (omega arith) (omega arith) (λ v h. refl) at-entry x))
+      (λ k.
+      let none-left : (P : Entry → Type 0) → Each P (p .history) → Each P [] = λ P h. tt in
+      arrived 6 0 (named-counted s p entry [] none-left used (state .named))
+      (phased-counted s p entry [] none-left 6 0 (omega arith) (omega arith) (omega arith) (λ v h. refl) at-entry x))
     where
-      n : ℕ
-      n = length (p .history)
-
       entry : Entry
       entry = entryHere p
-
-      inside : here < n
-      inside = position-in sound 5 e
 
       x : Phased s p 5 here
       x = phased-in 5 e
 
       at-entry : (P : Entry → Type 0) → Each P (p .history) → P entry
-      at-entry P h = Each-at P (p .history) here noEntry inside h
+      at-entry P h = Each-at P (p .history) here noEntry (position-in sound 5 e) h
 
       used : Used p (entry .old)
       used = at-entry (λ y. Used p (y .old)) (state .named .history)
-
-      by-place : (b : Bool) → lastOf n p ≡ b → State s (onward n (withHistory (cond b [] (p .history)) (counted entry p)))
-      by-place true last =
-          let over : n ≤ suc here = leb-true n (suc here) last in
-          let none-left : (P : Entry → Type 0) → Each P (p .history) → Each P [] = λ P h. tt in
-          onward-cases (State s) (withHistory [] (counted entry p)) n 5 6 e (after-counting []) (λ k. absurd (omega arith))
-          (λ k.
-          arrived 6 0 (named-counted s p entry [] none-left used (state .named))
-          (phased-counted s p entry [] none-left 6 0 (omega arith) (omega arith) (omega arith) (λ v h. refl) at-entry x))
-      by-place false more =
-          let left : suc here < n = leb-false n (suc here) more in
-          let same : (P : Entry → Type 0) → Each P (p .history) → Each P (p .history) = λ P h. h in
-          onward-cases (State s) (withHistory (p .history) (counted entry p)) n 5 6 e (after-counting (p .history))
-          (λ k.
-          arrived 5 (suc here) (named-counted s p entry (p .history) same used (state .named))
-          (phased-counted s p entry (p .history) same 5 (suc here) (omega arith) (omega arith) (omega arith) (λ v h. refl) at-entry x))
-          (λ k. absurd (omega arith))
 
   -- what phase 6 takes is unnamed, and its links are emptied
   module _ (e : p .collector .phase ≡ 6) where

@@ -4,23 +4,22 @@
 --     collects-sound        the collect event
 -- Assumes nothing.
 use Prim.Native.Nat.{ℕ, suc, _≤_, _<_}
-use mathlib.Core.Path.{_≡_, refl, sym, ap, _∙_, subst}
-use mathlib.Core.Bool.{Bool, true, false, cond}
+use mathlib.Core.Path.{_≡_, refl, sym, _∙_, subst}
+use mathlib.Core.Bool.{true, false}
 use mathlib.Core.List.{List, [], _++_}
 use native.Mathlib.Omega.{arith}
 use lib.Dec.{T}
 use lib.ListN.{length, drop, drop-of-length-le}
-use borrow.Author.Tests.{leb-true, leb-false}
 use Rattle.rules.specs.declared.Sizes.{Sizes}
 use Rattle.rules.specs.declared.RecordNumber.{RecordNumber}
 use Rattle.rules.specs.declared.Collector.{Collector}
 use Rattle.rules.specs.Pool.{Entry, Pool, registersAt, logAt, withHeld, withChanged, withSnoop, withLog, withHistory}
-use Rattle.rules.specs.Collect.{phaseAfter, lastOf, onward, opens, snoops, madeBy, takes, entryHere, clears, heldBy, scans, falls, rises, counted, counts}
+use Rattle.rules.specs.Collect.{opens, snoops, madeBy, takes, entryHere, clears, heldBy, scans, falls, rises, counted, counts}
 use Rattle.rules.specs.Collect.{emptied, frees, closes, reclaims, collects}
 use Rattle.rules.specs.Sound.{Sound, emptyIn, entriesIn, positions, uncleared, uncounted}
 use Rattle.laws.proofs.Change.{emptied-keeps}
 use Rattle.laws.proofs.Search.{reclaims-cases}
-use Rattle.laws.proofs.Phases.{by-phase, moved, onward-cases, after-snooping, after-taking, after-clearing, after-scanning, after-counting}
+use Rattle.laws.proofs.Phases.{by-phase, snoops-cases, takes-cases, clears-cases, scans-cases, counts-cases}
 use Rattle.soundness.proofs.Core.{Core, core-in, position-in, empty-in, sound, core-moved, arrives, unclearedIn, uncountedIn, positionsIn}
 use Rattle.soundness.proofs.Parts.{core-records, core-snoop, length-heldBy}
 use Rattle.soundness.proofs.Take.{core-taken, core-made}
@@ -55,21 +54,21 @@ module _ {s : Sizes} {p : Pool} (worker : 0 < s .w) (h : Sound s p) where
   opens-sound e = arrives 1 0 (core-in h 0 e) (omega arith) worker (λ t. empty-in h 0 e tt) (λ t. absurd t)
 
   snoops-sound : p .collector .phase ≡ 1 → Sound s (snoops s p .pool)
-  unfolding snoops
   snoops-sound e =
       let q : Pool = withSnoop here true p in
       let c : Core s q [] [] = core-snoop (core-in h 1 e) here true in
       let empty : p .history ≡ [] = empty-in h 1 e tt in
-      onward-cases (Sound s) q (s .w) 1 2 e (after-snooping (p .history))
+      snoops-cases s p (Sound s) e
       (λ k. arrives 1 (suc here) c (omega arith) k (λ t. empty) (λ t. absurd t))
       (λ k. arrives 2 0 (subst (λ (xs : List Entry). Core s q xs xs) (sym empty) c) (omega arith) worker (λ t. absurd t) (λ t. absurd t))
 
   takes-sound : p .collector .phase ≡ 2 → Sound s (takes s p .pool)
-  unfolding takes madeBy
+  unfolding madeBy
   takes-sound e =
-      onward-cases (Sound s) q (s .w) 2 (phaseAfter 2 (q .history)) e refl
+      takes-cases s p (Sound s) e
       (λ k. arrives 2 (suc here) c (omega arith) k (λ t. absurd t) (λ t. absurd t))
-      (λ k. leaves)
+      (λ k some. arrives 3 0 c (omega arith) some (λ t. absurd t) (λ t. some))
+      (λ k f. arrives 4 0 (subst (λ (xs : List Entry). Core s q xs (q .history)) f c) (omega arith) worker (λ t. absurd t) (λ t. absurd t))
     where
       q : Pool
       q = madeBy here (withLog here [] (withHistory (p .history ++ logAt p here) p))
@@ -77,18 +76,9 @@ module _ {s : Sizes} {p : Pool} (worker : 0 < s .w) (h : Sound s p) where
       c : Core s q (q .history) (q .history)
       c = core-made (core-taken (core-in h 2 e) here (position-in h 2 e)) here
 
-      leaves : Sound s (moved (phaseAfter 2 (q .history)) 0 q)
-      leaves =
-          after-taking (λ next. Sound s (moved next 0 q)) (q .history)
-          (λ f. arrives 4 0 (subst (λ (xs : List Entry). Core s q xs (q .history)) f c) (omega arith) worker (λ t. absurd t) (λ t. absurd t))
-          (λ x xs f.
-          let some : 0 < length (q .history) = omega (arith, ap length f) in
-          arrives 3 0 c (omega arith) some (λ t. absurd t) (λ t. some))
-
   clears-sound : p .collector .phase ≡ 3 → Sound s (clears s p .pool)
-  unfolding clears
   clears-sound e =
-      onward-cases (Sound s) q (length (p .history)) 3 4 e (after-clearing (p .history))
+      clears-cases s p (Sound s) e
       (λ k. arrives 3 (suc here) c (omega arith) k (λ t. absurd t) (λ t. omega arith))
       (λ k.
       arrives 4 0 (subst (λ (xs : List Entry). Core s q xs (p .history)) (drop-of-length-le (p .history) k) c) (omega arith) worker
@@ -102,11 +92,11 @@ module _ {s : Sizes} {p : Pool} (worker : 0 < s .w) (h : Sound s p) where
       c = core-cleared here (core-in h 3 e) (position-in h 3 e) _
 
   scans-sound : p .collector .phase ≡ 4 → Sound s (scans s p .pool)
-  unfolding scans
   scans-sound e =
-      onward-cases (Sound s) q (s .w) 4 (phaseAfter 4 (p .history)) e refl
+      scans-cases s p (Sound s) e
       (λ k. arrives 4 (suc here) c (omega arith) k (λ t. absurd t) (λ t. absurd t))
-      (λ k. leaves)
+      (λ k some. arrives 5 0 c (omega arith) some (λ t. absurd t) (λ t. some))
+      (λ k f. arrives 6 0 (subst (λ (xs : List Entry). Core s q [] xs) f c) (omega arith) (omega arith) (λ t. f) (λ t. absurd t))
     where
       r : Pool
       r = withSnoop here false p
@@ -126,40 +116,21 @@ module _ {s : Sizes} {p : Pool} (worker : 0 < s .w) (h : Sound s p) where
           (snooped .shaped .records .maker)
           (snooped .makers)
 
-      leaves : Sound s (moved (phaseAfter 4 (p .history)) 0 q)
-      leaves =
-          after-scanning (λ next. Sound s (moved next 0 q)) (p .history)
-          (λ f. arrives 6 0 (subst (λ (xs : List Entry). Core s q [] xs) f c) (omega arith) (omega arith) (λ t. f) (λ t. absurd t))
-          (λ x xs f.
-          let some : 0 < length (p .history) = omega (arith, ap length f) in
-          arrives 5 0 c (omega arith) some (λ t. absurd t) (λ t. some))
-
   counts-sound : p .collector .phase ≡ 5 → Sound s (counts s p .pool)
-  unfolding counts counted falls rises
-  counts-sound e = by-place (lastOf n p) refl
+  unfolding counted falls rises
+  counts-sound e =
+      counts-cases s p (Sound s) e
+      (λ k. arrives 5 (suc here) c (omega arith) k (λ t. absurd t) (λ t. omega arith))
+      (λ k.
+      arrives 6 0 (core-emptied-history (subst (λ (xs : List Entry). Core s q [] xs) (drop-of-length-le (p .history) k) c)) (omega arith) (omega arith)
+      (λ t. refl)
+      (λ t. absurd t))
     where
-      n : ℕ
-      n = length (p .history)
-
       q : Pool
       q = counted (entryHere p) p
 
       c : Core s q [] (drop (suc here) (p .history))
       c = core-counted here (core-in h 5 e) (position-in h 5 e) _
-
-      by-place : (b : Bool) → lastOf n p ≡ b → Sound s (onward n (withHistory (cond b [] (p .history)) q))
-      by-place true last =
-          let over : n ≤ suc here = leb-true n (suc here) last in
-          onward-cases (Sound s) (withHistory [] q) n 5 6 e (after-counting []) (λ k. absurd (omega arith))
-          (λ k.
-          arrives 6 0 (core-emptied-history (subst (λ (xs : List Entry). Core s q [] xs) (drop-of-length-le (p .history) over) c)) (omega arith) (omega arith)
-          (λ t. refl)
-          (λ t. absurd t))
-      by-place false more =
-          let left : suc here < n = leb-false n (suc here) more in
-          onward-cases (Sound s) (withHistory (p .history) q) n 5 6 e (after-counting (p .history))
-          (λ k. arrives 5 (suc here) c (omega arith) k (λ t. absurd t) (λ t. omega arith))
-          (λ k. absurd (omega arith))
 
   -- "If none passes": the close
   closes-sound : Core s p [] [] → p .history ≡ [] → Sound s (closes p)

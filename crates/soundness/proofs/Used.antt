@@ -3,10 +3,11 @@
 --     used-event     what an event does to a record's used mark is told by its answer
 --     used-run       so is what a run does, from any sound pool
 --     used-are-made-less-freed     and from the fresh pool
+--     freed-passed   a record that an event frees passed the search of phase 6
 --     made-was-free, freed-was-used     a make answers a record that was free, and a record freed was used
 -- Assumes nothing.
 use Prim.Native.Nat.{ℕ, _≤_}
-use mathlib.Core.Path.{_≡_, refl, sym, ap, _∙_}
+use mathlib.Core.Path.{_≡_, refl, sym, ap, _∙_, subst}
 use mathlib.Core.Logic.{⊎-elim}
 use mathlib.Core.Bool.{Bool, true, false, cond, _&&_, true≢false}
 use mathlib.Core.List.{List, [], _∷_}
@@ -33,7 +34,7 @@ use Rattle.laws.proofs.Number.{record-same}
 use Rattle.laws.proofs.Lists.{ofRecord-same, ofRecord-other}
 use Rattle.laws.proofs.Chosen.{chosen-low, chosen-free}
 use Rattle.laws.proofs.Change.{stored-has, emptied-keeps}
-use Rattle.laws.proofs.Search.{reclaims-cases}
+use Rattle.laws.proofs.Search.{Passed, reclaims-cases}
 use Rattle.laws.proofs.Refusals.{decided-outcome, can-make}
 use Rattle.laws.proofs.Phases.{by-phase}
 use Rattle.soundness.proofs.Fresh.{ofRecord-all}
@@ -152,21 +153,27 @@ module _ (s : Sizes) (p : Pool) (h : Sound s p) (a : RecordNumber) where
   made-was-free (Store w q f r) = λ z. absurd (true≢false (sym z))
   made-was-free Collect = λ z. absurd (true≢false (sym z))
 
-  pub freed-was-used : (e : Event) → 1 ≤ a .0 → answersFreed a e (outcome s p e .answer) ≡ true → usedAt p a ≡ true
-  unfolding outcome does answersFreed value opens snoops takes clears scans counts reclaims freesOrCloses
-  freed-was-used (Make w r) some = λ z. absurd (true≢false (sym z))
-  freed-was-used (Move w r q) some = λ z. absurd (true≢false (sym z))
-  freed-was-used (Drop w r) some = λ z. absurd (true≢false (sym z))
-  freed-was-used (Load w r q f) some = λ z. absurd (true≢false (sym z))
-  freed-was-used (Store w q f r) some = λ z. absurd (true≢false (sym z))
-  freed-was-used Collect some =
-      decided-outcome Was p (λ why. stepped) _ _ (λ t.
-      by-phase s p Was (h .phase) (λ e. stepped) (λ e. stepped) (λ e. stepped) (λ e. stepped) (λ e. stepped) (λ e. stepped)
+  -- only the step of phase 6 frees, and what it frees passed the search
+  pub freed-passed : (e : Event) → 1 ≤ a .0 → answersFreed a e (outcome s p e .answer) ≡ true → (p .collector .phase ≡ 6) × (a .0 ≤ s .n) × Passed s p a
+  unfolding outcome does answersFreed value opens snoops takes clears scans counts
+  freed-passed (Make w r) some = λ z. absurd (true≢false (sym z))
+  freed-passed (Move w r q) some = λ z. absurd (true≢false (sym z))
+  freed-passed (Drop w r) some = λ z. absurd (true≢false (sym z))
+  freed-passed (Load w r q f) some = λ z. absurd (true≢false (sym z))
+  freed-passed (Store w q f r) some = λ z. absurd (true≢false (sym z))
+  freed-passed Collect some =
+      decided-outcome Took p (λ why. no-record) _ _ (λ t.
+      by-phase s p Took (h .phase) (λ e. no-record) (λ e. no-record) (λ e. no-record) (λ e. no-record) (λ e. no-record) (λ e. no-record)
       (λ e.
-      reclaims-cases s p Was (λ z. stepped) (λ y some-y low pass z. ap (λ (b : RecordNumber). usedAt p b) (sym (record-same y a (eqb-true y.0 a.0 z))) ∙ pass .used)))
+      reclaims-cases s p Took (λ z. no-record) (λ y some-y low pass z.
+      subst (λ (b : RecordNumber). (p .collector .phase ≡ 6) × (b .0 ≤ s .n) × Passed s p b) (record-same y a (eqb-true y.0 a.0 z)) (e, low, pass))))
     where
-      Was : Outcome → Type 0
-      Was o = answersFreed a Collect (o .answer) ≡ true → usedAt p a ≡ true
+      Took : Outcome → Type 0
+      Took o = answersFreed a Collect (o .answer) ≡ true → (p .collector .phase ≡ 6) × (a .0 ≤ s .n) × Passed s p a
 
-      stepped : eqb 0 (a .0) ≡ true → usedAt p a ≡ true
-      stepped z = absurd (let e = eqb-true 0 a.0 z in omega arith)
+      -- a step that frees nothing answers no record
+      no-record : eqb 0 (a .0) ≡ true → (p .collector .phase ≡ 6) × (a .0 ≤ s .n) × Passed s p a
+      no-record z = absurd (let e = eqb-true 0 a.0 z in omega arith)
+
+  pub freed-was-used : (e : Event) → 1 ≤ a .0 → answersFreed a e (outcome s p e .answer) ≡ true → usedAt p a ≡ true
+  freed-was-used e some z = freed-passed e some z .2 .used
