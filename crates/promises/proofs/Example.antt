@@ -1,22 +1,24 @@
 -- The promises speak of something: document 01's listing has a cycle, and at its opening record 1 is lost and no loop keeps it. So the third promise says of it what
--- the listing prints, that record 1 is freed in that cycle.
+-- the listing prints, that record 1 is freed in that cycle. And its "loops aside" can't be left out: a record that is linked to itself and lost stays.
 --     begun, opened        the listing's make and drop, and the pool then
 --     one-cycle            its six collect events are a cycle
 --     one-lost, no-loop    record 1 is lost, and no closed loop keeps it
 --     one-freed            so it is freed
+--     self-stays           where record 1 is linked to itself before the drop, it is lost, a loop keeps it, and the cycle does not free it
 -- Assumes nothing.
 use Prim.Native.Nat.{ℕ, zero, suc}
 use mathlib.Core.Path.{_≡_, refl, sym, ap, _∙_}
-use mathlib.Core.Bool.{true, true≢false}
+use mathlib.Core.Bool.{true, false, true≢false}
+use mathlib.Core.Logic.{inl}
 use mathlib.Core.List.{List, [], _∷_}
 use native.Mathlib.Omega.{arith}
 use Rattle.rules.specs.declared.Sizes.{Sizes}
 use Rattle.rules.specs.declared.RecordNumber.{RecordNumber}
 use Rattle.rules.specs.declared.Event.{Event}
-use Rattle.rules.specs.declared.Event.the-variants.{Make, Drop, Collect}
+use Rattle.rules.specs.declared.Event.the-variants.{Make, Drop, Store, Collect}
 use Rattle.rules.specs.Size.{linkNumber}
 use Rattle.rules.specs.Pool.{Pool, none, usedAt, valueAt, registerAt, fresh}
-use Rattle.rules.specs.Outcome.{answers, after}
+use Rattle.rules.specs.Outcome.{answers, after, answersFreed}
 use Rattle.rules.specs.Starred.{sizesOf}
 use Rattle.rules.proofs.Starred.{computes}
 use Rattle.promises.specs.Reach.{Reaches, holds, leads}
@@ -51,6 +53,11 @@ one-cycle =
       to-close = going-on (not-zero 1) (going-on (not-zero 3) (going-on (not-zero 5) (going-on (not-zero 5) (closing (record { before = not-zero 5; after = refl })))));
     }
 
+-- where every register is empty, nothing is reached
+nothing-reached : {p : Pool} → ((w r : ℕ) → registerAt p w r ≡ none) → {w : ℕ} {a : RecordNumber} → Reaches sizes p w a → ⊥
+nothing-reached empty {w} (holds r e some) = omega (arith, ap (λ (b : RecordNumber). b .0) (sym (empty w r) ∙ e))
+nothing-reached empty (leads f x k e some) = nothing-reached empty x
+
 -- the one register is empty, and so are both links
 no-register : (w r : ℕ) → registerAt opened w r ≡ none
 unfolding computes
@@ -64,13 +71,9 @@ no-value zero = refl
 no-value (suc zero) = refl
 no-value (suc (suc l)) = refl
 
-nothing-reached : {w : ℕ} {a : RecordNumber} → Reaches sizes opened w a → ⊥
-nothing-reached {w} (holds r e some) = omega (arith, ap (λ (b : RecordNumber). b .0) (sym (no-register w r) ∙ e))
-nothing-reached (leads f x k e some) = nothing-reached x
-
 one-lost : Lost sizes opened one
 unfolding computes
-one-lost = record { used = refl; unreached = λ w x. nothing-reached x }
+one-lost = record { used = refl; unreached = λ w x. nothing-reached no-register x }
 
 nothing-leads : {a b : RecordNumber} → LeadsTo sizes opened a b → ⊥
 nothing-leads (link {a = a} {b = b} f from to k e) =
@@ -83,3 +86,44 @@ no-loop x = nothing-leads (x .loop)
 pub one-freed : freedAmong one (Collect ∷ rest) (answers sizes opened (Collect ∷ rest)) ≡ true
 unfolding computes
 one-freed = lost-is-freed sizes refl begun Collect rest one-cycle one one-lost no-loop
+
+-- ---- loops aside
+
+abbrev self-begun : List Event
+self-begun = Make 0 0 ∷ Store 0 0 0 0 ∷ Drop 0 0 ∷ []
+
+abbrev self-opened : Pool
+self-opened = after sizes (fresh sizes) self-begun
+
+-- the phases are 0, then 1, 2, 3, 4, 5, 6, where nothing passes, and 0
+abbrev self-rest : List Event
+self-rest = Collect ∷ Collect ∷ Collect ∷ Collect ∷ Collect ∷ Collect ∷ []
+
+self-cycle : Cycle sizes self-opened Collect self-rest
+unfolding computes
+self-cycle =
+    record {
+      opens = record { before = refl; after = not-zero 0 };
+      to-close =
+          going-on (not-zero 1)
+          (going-on (not-zero 2) (going-on (not-zero 3) (going-on (not-zero 4) (going-on (not-zero 5) (closing (record { before = not-zero 5; after = refl }))))));
+    }
+
+self-register : (w r : ℕ) → registerAt self-opened w r ≡ none
+unfolding computes
+self-register zero zero = refl
+self-register zero (suc r) = refl
+self-register (suc w) r = refl
+
+self-lost : Lost sizes self-opened one
+unfolding computes
+self-lost = record { used = refl; unreached = λ w x. nothing-reached self-register x }
+
+self-kept : LoopKeeps sizes self-opened one
+unfolding computes
+self-kept = record { looped = one; loop = link 0 self-lost self-lost (omega arith) refl; keeps = inl refl }
+
+pub self-stays : Cycle sizes self-opened Collect self-rest × Lost sizes self-opened one × LoopKeeps sizes self-opened one
+    × (freedAmong one (Collect ∷ self-rest) (answers sizes self-opened (Collect ∷ self-rest)) ≡ false)
+unfolding computes freedAmong answersFreed
+self-stays = (self-cycle, self-lost, self-kept, refl)
