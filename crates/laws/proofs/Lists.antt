@@ -1,5 +1,5 @@
 -- Laws on lists that speak of no pool.
---     flatten-at, flatten-set                 a list of lists joined, taken apart at one of them
+--     flatten-set                             a list of lists joined, taken apart at one of them that is written
 --     length-flatten                          one of them is no longer than all joined
 --     Each-append, Each-left, Each-right, Each-at, Each-all, Each-flatten, Each-flatten-set, Each-map, Each-map₂     what holds of each element
 --     set-cases                               a table of which one place is written
@@ -8,7 +8,7 @@
 --     set-keeps, set-keeps-below, map-keeps, withRecord-keeps, map-ofRecord-keeps     what holds at every place of a table
 -- Assumes nothing.
 use Prim.Native.Nat.{ℕ, zero, suc, _≤_, _<_, zero-le, suc-le-suc}
-use mathlib.Core.Path.{_≡_, refl, sym, ap, _∙_}
+use mathlib.Core.Path.{_≡_, refl, sym, ap, _∙_, subst}
 use mathlib.Core.Logic.{_⊎_, inl, inr, ⊎-elim}
 use mathlib.Core.List.{List, [], _∷_, _++_, flatten, append-assoc, map, zipWith}
 use native.Mathlib.Omega.{arith}
@@ -21,12 +21,6 @@ use Rattle.rules.specs.Sound.{Each}
 -- ---- a list of lists joined
 
 module _ {A : Type 0} where
-  pub flatten-at : (ls : List (List A)) (w : ℕ) → w < length ls → flatten ls ≡ flatten (take w ls) ++ (getD ls w [] ++ flatten (drop (suc w) ls))
-  unfolding flatten
-  flatten-at [] w h = absurd (not-suc-le-zero h)
-  flatten-at (x ∷ ls) zero h = refl
-  flatten-at (x ∷ ls) (suc w) h = ap (λ t. x ++ t) (flatten-at ls w (le-of-suc-le-suc h)) ∙ sym (append-assoc x _ _)
-
   pub flatten-set : (ls : List (List A)) (w : ℕ) (xs : List A) → w < length ls → flatten (set ls w xs) ≡ flatten (take w ls) ++ (xs ++ flatten (drop (suc w) ls))
   unfolding flatten
   flatten-set [] w xs h = absurd (not-suc-le-zero h)
@@ -143,21 +137,13 @@ getD-zipWith f (x ∷ xs) (y ∷ ys) (suc i) a b h = getD-zipWith f xs ys i a b 
 
 module _ {A : Type 0} (P : A → Type 0) (d : A) where
   pub set-keeps : (xs : List A) (i : ℕ) (x : A) → P x → ((j : ℕ) → P (getD xs j d)) → (j : ℕ) → P (getD (set xs i x) j d)
-  set-keeps [] i x h all j = all j
-  set-keeps (y ∷ xs) zero x h all zero = h
-  set-keeps (y ∷ xs) zero x h all (suc j) = all (suc j)
-  set-keeps (y ∷ xs) (suc i) x h all zero = all zero
-  set-keeps (y ∷ xs) (suc i) x h all (suc j) = set-keeps xs i x h (λ k. all (suc k)) j
+  set-keeps xs i x h all j = ⊎-elim (λ e. subst P (sym e) (all j)) (λ e. subst P (sym (e .1)) h) (set-cases xs i x j d)
 
   -- the same of the places that are there alone
   pub set-keeps-below : (xs : List A) (i : ℕ) (x : A) → (i < length xs → P x) → ((j : ℕ) → j < length xs → P (getD xs j d))
       → (j : ℕ) → j < length xs → P (getD (set xs i x) j d)
-  set-keeps-below [] i x h all j k = all j k
-  set-keeps-below (y ∷ xs) zero x h all zero k = h k
-  set-keeps-below (y ∷ xs) zero x h all (suc j) k = all (suc j) k
-  set-keeps-below (y ∷ xs) (suc i) x h all zero k = all zero k
-  set-keeps-below (y ∷ xs) (suc i) x h all (suc j) k =
-      set-keeps-below xs i x (λ q. h (suc-le-suc q)) (λ m q. all (suc m) (suc-le-suc q)) j (le-of-suc-le-suc k)
+  set-keeps-below xs i x h all j k =
+      ⊎-elim (λ e. subst P (sym e) (all j k)) (λ e. subst P (sym (e .1)) (h (subst (λ (m : ℕ). m < length xs) (e .0) k))) (set-cases xs i x j d)
 
   pub map-keeps : (f : A → A) → ((x : A) → P x → P (f x)) → (xs : List A) → ((j : ℕ) → P (getD xs j d)) → (j : ℕ) → P (getD (map f xs) j d)
   map-keeps f h [] all j = all j
@@ -166,9 +152,7 @@ module _ {A : Type 0} (P : A → Type 0) (d : A) where
 
   -- the same by record numbers
   pub withRecord-keeps : (table : List A) (i : ℕ) (x : A) → P x → ((j : ℕ) → P (ofRecord table j d)) → (j : ℕ) → P (ofRecord (withRecord table i x) j d)
-  withRecord-keeps table zero x h all j = all j
-  withRecord-keeps table (suc i) x h all zero = all zero
-  withRecord-keeps table (suc i) x h all (suc j) = set-keeps table i x h (λ k. all (suc k)) j
+  withRecord-keeps table i x h all j = ⊎-elim (λ e. subst P (sym e) (all j)) (λ e. subst P (sym (e .1)) h) (withRecord-cases table i x j d)
 
   pub map-ofRecord-keeps : (f : A → A) → ((x : A) → P x → P (f x)) → (table : List A) → ((j : ℕ) → P (ofRecord table j d)) → (j : ℕ) → P (ofRecord (map f table) j d)
   map-ofRecord-keeps f h table all zero = all zero

@@ -6,20 +6,21 @@
 --     lookUp-without, lookUp-first    a log is emptied that says nothing of the link, or that has its one entry
 --     lookUp-more, lookUp-added       a log gets an entry more, for another link or for this one
 --     view-marked, view-unmarked      the view value, by the mark
+--     view-keeps                      what holds of none, of every old value and of the link's value holds of the view value
 -- Only one entry of all logs is for a link: no law here tells which is found where two are. Assumes nothing.
 use Prim.Native.Nat.{ℕ, suc, _+_, _≤_, _<_}
 use mathlib.Core.Path.{_≡_, refl, sym, ap, _∙_, subst}
-use mathlib.Core.Bool.{true, false, cond}
+use mathlib.Core.Bool.{Bool, true, false, cond}
 use mathlib.Core.List.{List, [], _∷_, _++_, flatten}
 use native.Mathlib.Omega.{arith}
 use lib.ListN.{length, getD, take, drop, set}
-use lib.Seq.{append-snoc}
+use lib.Seq.{append-snoc, set-getD}
 use Rattle.rules.specs.declared.LinkNumber.{LinkNumber}
 use Rattle.rules.specs.declared.RecordNumber.{RecordNumber}
 use Rattle.rules.specs.Pool.{Entry, Pool, none, valueAt, changedAt}
-use Rattle.rules.specs.View.{times, oldIn, lookUp, viewValue}
+use Rattle.rules.specs.View.{times, oldIn, allLogs, lookUp, viewValue}
 use Rattle.rules.specs.Sound.{Each}
-use Rattle.laws.proofs.Lists.{flatten-at, flatten-set}
+use Rattle.laws.proofs.Lists.{flatten-set}
 use Rattle.laws.proofs.Entries.{times-append, times-cons, times-one, oldIn-append, oldIn-absent, oldIn-present, oldIn-here, oldIn-there, oldIn-keeps}
 
 -- ---- all logs
@@ -57,13 +58,6 @@ module _ (l : LinkNumber) (logs : List (List Entry)) (w : ℕ) (here : w < lengt
   behind : List Entry
   behind = flatten (drop (suc w) logs)
 
-  times-at : times l (flatten logs) ≡ times l before + (times l (getD logs w []) + times l behind)
-  unfolding before behind
-  times-at =
-      ap (times l) (flatten-at logs w here)
-      ∙ times-append l before (getD logs w [] ++ behind)
-      ∙ ap (λ (n : ℕ). times l before + n) (times-append l (getD logs w []) behind)
-
   times-set : (xs : List Entry) → times l (flatten (set logs w xs)) ≡ times l before + (times l xs + times l behind)
   unfolding before behind
   times-set xs =
@@ -71,15 +65,15 @@ module _ (l : LinkNumber) (logs : List (List Entry)) (w : ℕ) (here : w < lengt
       ∙ times-append l before (xs ++ behind)
       ∙ ap (λ (n : ℕ). times l before + n) (times-append l xs behind)
 
+  -- what is written may be what stood there
+  unwritten : set logs w (getD logs w []) ≡ logs
+  unwritten = set-getD logs w []
+
+  times-at : times l (flatten logs) ≡ times l before + (times l (getD logs w []) + times l behind)
+  times-at = ap (λ ls. times l (flatten ls)) (sym unwritten) ∙ times-set (getD logs w [])
+
   pub times-logs : (xs : List Entry) → times l (flatten (set logs w xs)) + times l (getD logs w []) ≡ times l (flatten logs) + times l xs
   times-logs xs = omega (arith, times-at, times-set xs)
-
-  old-at : (a : RecordNumber) → oldIn l (flatten logs) a ≡ oldIn l before (oldIn l (getD logs w []) (oldIn l behind a))
-  unfolding before behind
-  old-at a =
-      ap (λ es. oldIn l es a) (flatten-at logs w here)
-      ∙ oldIn-append l before (getD logs w [] ++ behind) a
-      ∙ ap (oldIn l before) (oldIn-append l (getD logs w []) behind a)
 
   old-set : (xs : List Entry) (a : RecordNumber) → oldIn l (flatten (set logs w xs)) a ≡ oldIn l before (oldIn l xs (oldIn l behind a))
   unfolding before behind
@@ -87,6 +81,9 @@ module _ (l : LinkNumber) (logs : List (List Entry)) (w : ℕ) (here : w < lengt
       ap (λ es. oldIn l es a) (flatten-set logs w xs here)
       ∙ oldIn-append l before (xs ++ behind) a
       ∙ ap (oldIn l before) (oldIn-append l xs behind a)
+
+  old-at : (a : RecordNumber) → oldIn l (flatten logs) a ≡ oldIn l before (oldIn l (getD logs w []) (oldIn l behind a))
+  old-at a = ap (λ ls. oldIn l (flatten ls) a) (sym unwritten) ∙ old-set (getD logs w []) a
 
   -- a log that says nothing of the link is emptied
   pub lookUp-without : times l (getD logs w []) ≡ 0 → lookUp l (set logs w []) ≡ lookUp l logs
@@ -130,3 +127,11 @@ view-marked p l e = ap (λ b. cond b (lookUp l (p .workers .log)) (valueAt p l))
 pub view-unmarked : (p : Pool) (l : LinkNumber) → changedAt p l ≡ false → viewValue p l ≡ valueAt p l
 unfolding viewValue
 view-unmarked p l e = ap (λ b. cond b (lookUp l (p .workers .log)) (valueAt p l)) e
+
+pub view-keeps : (P : RecordNumber → Type 0) (p : Pool) (l : LinkNumber) → Each (λ e. P (e .old)) (allLogs p) → P none → P (valueAt p l) → P (viewValue p l)
+unfolding viewValue allLogs
+view-keeps P p l old nothing value = by-mark (changedAt p l)
+  where
+    by-mark : (b : Bool) → P (cond b (lookUp l (p .workers .log)) (valueAt p l))
+    by-mark true = lookUp-keeps P l (p .workers .log) old nothing
+    by-mark false = value

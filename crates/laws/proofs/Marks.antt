@@ -8,7 +8,7 @@
 -- Assumes nothing.
 use Prim.Native.Nat.{ℕ, zero, suc, _+_, _-_, _≤_}
 use mathlib.Core.Path.{_≡_, refl, sym, ap, _∙_}
-use mathlib.Core.Logic.{⊎-elim}
+use mathlib.Core.Logic.{_⊎_, inl, ⊎-elim}
 use mathlib.Core.Bool.{Bool, true, false, cond, _&&_, _||_, true≢false}
 use mathlib.Core.List.{List, [], _∷_, map, zipWith}
 use native.Mathlib.Omega.{arith}
@@ -20,7 +20,7 @@ use Rattle.rules.specs.declared.RecordNumber.{RecordNumber}
 use Rattle.rules.specs.Pool.{Pool, none, ofRecord, withRecord, countAt, heldAt, candidateAt, makerAt}
 use Rattle.rules.specs.Collect.{madeBy, heldBy, falls, closes}
 use Rattle.laws.proofs.Tests.{below-or-not}
-use Rattle.laws.proofs.Lists.{set-cases, ofRecord-same, ofRecord-other, length-withRecord, getD-zipWith}
+use Rattle.laws.proofs.Lists.{withRecord-cases, ofRecord-same, ofRecord-other, length-withRecord, getD-zipWith}
 
 -- ---- none has nothing
 
@@ -92,9 +92,7 @@ module _ (w : ℕ) (p : Pool) where
 -- ---- phase 4
 
 pub on-grows : (marks : List Bool) (i j : ℕ) → ofRecord marks j false ≡ true → ofRecord (withRecord marks i true) j false ≡ true
-on-grows marks zero j h = h
-on-grows marks (suc i) zero h = h
-on-grows marks (suc i) (suc j) h = ⊎-elim (λ e. e ∙ h) (λ e. e .1) (set-cases marks i true j false)
+on-grows marks i j h = ⊎-elim (λ e. e ∙ h) (λ e. e .1) (withRecord-cases marks i true j false)
 
 pub heldBy-grows : (registers : List RecordNumber) (marks : List Bool) (j : ℕ) → ofRecord marks j false ≡ true → ofRecord (heldBy registers marks) j false ≡ true
 unfolding heldBy
@@ -119,23 +117,23 @@ heldBy-each (a ∷ registers) marks (suc r) h k =
 
 -- ---- phases 5 and 6
 
+-- a candidate mark is what it was, or it is of the record whose count falls and goes on
+falls-cases : (a b : RecordNumber) (p : Pool) → (candidateAt (falls a p) b ≡ candidateAt p b) ⊎ ((b .0 ≡ a .0) × (candidateAt (falls a p) b ≡ true))
+unfolding falls
+falls-cases a b p = by-count (eqb (countAt p a - 1) 0)
+  where
+    by-count : (x : Bool) → let marks : List Bool = cond x (withRecord (p .records .candidate) (a .0) true) (p .records .candidate) in
+        (ofRecord marks (b .0) false ≡ candidateAt p b) ⊎ ((b .0 ≡ a .0) × (ofRecord marks (b .0) false ≡ true))
+    by-count true = withRecord-cases (p .records .candidate) a.0 true b.0 false
+    by-count false = inl refl
+
 pub falls-other : (a b : RecordNumber) (p : Pool) → (a .0 ≡ b .0 → ⊥) → candidateAt (falls a p) b ≡ candidateAt p b
-unfolding falls
-falls-other a b p n = by-count (eqb (countAt p a - 1) 0)
-  where
-    by-count : (x : Bool) → ofRecord (cond x (withRecord (p .records .candidate) (a .0) true) (p .records .candidate)) (b .0) false ≡ candidateAt p b
-    by-count true = ofRecord-other (p .records .candidate) a.0 b.0 true false n
-    by-count false = refl
+falls-other a b p n = ⊎-elim (λ e. e) (λ e. absurd (n (sym (e .0)))) (falls-cases a b p)
 
--- and it makes the record a candidate whose count comes to 0
 pub falls-candidate : (a b : RecordNumber) (p : Pool) → candidateAt p b ≡ true → candidateAt (falls a p) b ≡ true
-unfolding falls
-falls-candidate a b p h = by-count (eqb (countAt p a - 1) 0)
-  where
-    by-count : (x : Bool) → ofRecord (cond x (withRecord (p .records .candidate) (a .0) true) (p .records .candidate)) (b .0) false ≡ true
-    by-count true = on-grows (p .records .candidate) a.0 b.0 h
-    by-count false = h
+falls-candidate a b p h = ⊎-elim (λ e. e ∙ h) (λ e. e .1) (falls-cases a b p)
 
+-- at 0 it goes on
 pub falls-own : (a : RecordNumber) (p : Pool) → 1 ≤ a .0 → a .0 ≤ length (p .records .candidate) → countAt p a - 1 ≡ 0 → candidateAt (falls a p) a ≡ true
 unfolding falls
 falls-own a p some low e =
@@ -158,23 +156,17 @@ closes-held p a = at a.0 (p .records .held)
     at zero marks = refl
     at (suc i) marks = off marks i
 
--- a candidate whose count is 0 stays one
-pub closes-stays : (p : Pool) → length (p .records .candidate) ≡ length (p .records .count) → (a : RecordNumber) → candidateAt p a ≡ true → countAt p a ≡ 0 → candidateAt (closes p) a ≡ true
+-- "candidate marks off where the count is not 0"
+closes-marks : (p : Pool) → length (p .records .candidate) ≡ length (p .records .count) → (a : RecordNumber) → candidateAt (closes p) a ≡ (candidateAt p a && eqb (countAt p a) 0)
 unfolding closes
-closes-stays p h a on z = at a.0 on z
+closes-marks p h a = at a.0
   where
-    at : (i : ℕ) → ofRecord (p .records .candidate) i false ≡ true → ofRecord (p .records .count) i 0 ≡ 0 → ofRecord (zipWith (λ c n. c && eqb n 0) (p .records .candidate) (p .records .count)) i false ≡ true
-    at zero e z = absurd (true≢false (sym e))
-    at (suc i) e z =
-        getD-zipWith (λ c n. c && eqb n 0) (p .records .candidate) (p .records .count) i false 0 h
-        ∙ (λ j. e j && eq-eqb (getD (p .records .count) i 0) 0 z j)
+    at : (i : ℕ) → ofRecord (zipWith (λ c n. c && eqb n 0) (p .records .candidate) (p .records .count)) i false ≡ (ofRecord (p .records .candidate) i false && eqb (ofRecord (p .records .count) i 0) 0)
+    at zero = refl
+    at (suc i) = getD-zipWith (λ c n. c && eqb n 0) (p .records .candidate) (p .records .count) i false 0 h
+
+pub closes-stays : (p : Pool) → length (p .records .candidate) ≡ length (p .records .count) → (a : RecordNumber) → candidateAt p a ≡ true → countAt p a ≡ 0 → candidateAt (closes p) a ≡ true
+closes-stays p h a on z = closes-marks p h a ∙ (λ j. on j && eq-eqb (countAt p a) 0 z j)
 
 pub closes-candidate : (p : Pool) → length (p .records .candidate) ≡ length (p .records .count) → (a : RecordNumber) → candidateAt p a ≡ false → candidateAt (closes p) a ≡ false
-unfolding closes
-closes-candidate p h a off = at a.0 off
-  where
-    at : (i : ℕ) → ofRecord (p .records .candidate) i false ≡ false → ofRecord (zipWith (λ c n. c && eqb n 0) (p .records .candidate) (p .records .count)) i false ≡ false
-    at zero e = refl
-    at (suc i) e =
-        getD-zipWith (λ c n. c && eqb n 0) (p .records .candidate) (p .records .count) i false 0 h
-        ∙ ap (λ c. c && eqb (getD (p .records .count) i 0) 0) e
+closes-candidate p h a off = closes-marks p h a ∙ ap (λ c. c && eqb (countAt p a) 0) off

@@ -17,7 +17,7 @@ use Rattle.rules.specs.declared.Sizes.{Sizes}
 use Rattle.rules.specs.declared.Collector.{Collector}
 use Rattle.rules.specs.Pool.{Entry, Pool, registersAt, logAt, withHeld, withChanged, withSnoop, withLog, withHistory, withCollector}
 use Rattle.rules.specs.Reply.{Outcome}
-use Rattle.rules.specs.Collect.{phaseAfter, lastOf, onward, stepped, opens, snoops, madeBy, takes, entryHere, clears, heldBy, scans, counted, falls, rises, counts}
+use Rattle.rules.specs.Collect.{skipped, phaseAfter, lastOf, onward, stepped, opens, snoops, madeBy, takes, entryHere, clears, heldBy, scans, counted, falls, rises, counts}
 use Rattle.rules.specs.Collect.{nextClosed, closes, reclaims, phases, collects}
 
 -- ---- the list of phases
@@ -74,6 +74,13 @@ onward-cases P q n k next e f stay leave = by-place (lastOf n q) refl
 
 -- ---- where the step of each phase arrives
 
+-- "Phases 3 and 5 are skipped when the history is empty."
+after-cases : (k : ℕ) (P : ℕ → Type 0) (history : List Entry) → (0 < length history → P (suc k)) → (history ≡ [] → P (cond (skipped (suc k) []) (suc (suc k)) (suc k)))
+    → P (phaseAfter k history)
+unfolding phaseAfter
+after-cases k P [] some empty = empty refl
+after-cases k P (x ∷ history) some empty = some (omega arith)
+
 module _ (s : Sizes) (p : Pool) (P : Pool → Type 0) where
   abbrev here : ℕ
   here = p .collector .position
@@ -83,12 +90,8 @@ module _ (s : Sizes) (p : Pool) (P : Pool → Type 0) where
       → (suc here < s .w → P (moved 1 (suc here) (withSnoop here true p)))
       → (s .w ≤ suc here → P (moved 2 0 (withSnoop here true p)))
       → P (snoops s p .pool)
-  unfolding snoops phaseAfter
-  snoops-cases e = onward-cases P (withSnoop here true p) (s .w) 1 2 e (next (p .history))
-    where
-      next : (history : List Entry) → phaseAfter 1 history ≡ 2
-      next [] = refl
-      next (x ∷ history) = refl
+  unfolding snoops
+  snoops-cases e = onward-cases P (withSnoop here true p) (s .w) 1 2 e (after-cases 1 (λ k. k ≡ 2) (p .history) (λ f. refl) (λ f. refl))
 
   -- "After the last, phase 3", which is skipped when the history is empty
   abbrev took : Pool
@@ -99,26 +102,18 @@ module _ (s : Sizes) (p : Pool) (P : Pool → Type 0) where
       → (s .w ≤ suc here → 0 < length (took .history) → P (moved 3 0 took))
       → (s .w ≤ suc here → took .history ≡ [] → P (moved 4 0 took))
       → P (takes s p .pool)
-  unfolding takes madeBy phaseAfter
+  unfolding takes madeBy
   takes-cases e stay some empty =
-      onward-cases P took (s .w) 2 (phaseAfter 2 (took .history)) e refl stay (λ k. next (took .history) (some k) (empty k))
-    where
-      next : (history : List Entry) → (0 < length history → P (moved 3 0 took)) → (history ≡ [] → P (moved 4 0 took))
-          → P (moved (phaseAfter 2 history) 0 took)
-      next [] some empty = empty refl
-      next (x ∷ history) some empty = some (omega arith)
+      onward-cases P took (s .w) 2 (phaseAfter 2 (took .history)) e refl stay (λ k. after-cases 2 (λ next. P (moved next 0 took)) (took .history) (some k) (empty k))
 
   -- "After the last, phase 4."
   pub clears-cases : p .collector .phase ≡ 3
       → (suc here < length (p .history) → P (moved 3 (suc here) (withChanged (entryHere p .link) false p)))
       → (length (p .history) ≤ suc here → P (moved 4 0 (withChanged (entryHere p .link) false p)))
       → P (clears s p .pool)
-  unfolding clears phaseAfter
-  clears-cases e = onward-cases P (withChanged (entryHere p .link) false p) (length (p .history)) 3 4 e (next (p .history))
-    where
-      next : (history : List Entry) → phaseAfter 3 history ≡ 4
-      next [] = refl
-      next (x ∷ history) = refl
+  unfolding clears
+  clears-cases e =
+      onward-cases P (withChanged (entryHere p .link) false p) (length (p .history)) 3 4 e (after-cases 3 (λ k. k ≡ 4) (p .history) (λ f. refl) (λ f. refl))
 
   -- "After the last, phase 5", which is skipped when the history is empty
   abbrev scanned : Pool
@@ -129,14 +124,9 @@ module _ (s : Sizes) (p : Pool) (P : Pool → Type 0) where
       → (s .w ≤ suc here → 0 < length (p .history) → P (moved 5 0 scanned))
       → (s .w ≤ suc here → p .history ≡ [] → P (moved 6 0 scanned))
       → P (scans s p .pool)
-  unfolding scans phaseAfter
+  unfolding scans
   scans-cases e stay some empty =
-      onward-cases P scanned (s .w) 4 (phaseAfter 4 (p .history)) e refl stay (λ k. next (p .history) (some k) (empty k))
-    where
-      next : (history : List Entry) → (0 < length history → P (moved 5 0 scanned)) → (history ≡ [] → P (moved 6 0 scanned))
-          → P (moved (phaseAfter 4 history) 0 scanned)
-      next [] some empty = empty refl
-      next (x ∷ history) some empty = some (omega arith)
+      onward-cases P scanned (s .w) 4 (phaseAfter 4 (p .history)) e refl stay (λ k. after-cases 4 (λ next. P (moved next 0 scanned)) (p .history) (some k) (empty k))
 
   -- "After the last, the history is emptied: phase 6."
   pub counts-cases : p .collector .phase ≡ 5

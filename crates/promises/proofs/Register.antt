@@ -6,19 +6,19 @@
 use Prim.Native.Nat.{ℕ, _+_, _≤_, _<_}
 use mathlib.Core.Path.{_≡_, refl, sym, ap, _∙_, subst}
 use mathlib.Core.Logic.{_⊎_, inl, inr, ⊎-elim}
-use mathlib.Core.Bool.{Bool, true, false, cond, true≢false}
+use mathlib.Core.Bool.{true, false, true≢false}
 use mathlib.Core.List.{List, []}
 use native.Mathlib.Omega.{arith}
 use lib.ListN.{length, getD, set}
 use Rattle.rules.specs.declared.Sizes.{Sizes}
 use Rattle.rules.specs.declared.RecordNumber.{RecordNumber}
 use Rattle.rules.specs.declared.LinkNumber.{LinkNumber}
-use Rattle.rules.specs.Pool.{Pool, none, withRecord, usedAt, makerAt, valueAt, changedAt, registersAt, registerAt, withUsed, withMaker, withRegister}
-use Rattle.rules.specs.View.{allLogs, lookUp, viewValue}
+use Rattle.rules.specs.Pool.{Pool, none, withRecord, usedAt, makerAt, valueAt, registersAt, registerAt, withUsed, withMaker, withRegister}
+use Rattle.rules.specs.View.{allLogs, viewValue}
 use Rattle.laws.proofs.Tests.{eqb-cases}
 use Rattle.laws.proofs.Number.{record-same}
 use Rattle.laws.proofs.Lists.{set-cases, ofRecord-same, ofRecord-other, Each-map}
-use Rattle.laws.proofs.LookUp.{lookUp-keeps}
+use Rattle.laws.proofs.LookUp.{view-keeps}
 use Rattle.promises.proofs.Invariant.{Used, Kept, NoneOrKept, Since, Named, Phased, scannedBelow}
 use Rattle.promises.proofs.Grow.{kept-grows}
 
@@ -124,12 +124,7 @@ module _ (s : Sizes) (p : Pool) (w : ℕ) (a : RecordNumber) (some : 1 ≤ a .0)
   not-named b used e = true≢false (sym (used (omega arith)) ∙ ap (λ (c : RecordNumber). usedAt p c) (record-same b a e) ∙ free)
 
   view-used : Named s p → (l : LinkNumber) → Used p (viewValue p l)
-  unfolding viewValue allLogs
-  view-used n l = by-mark (changedAt p l)
-    where
-      by-mark : (b : Bool) → Used p (cond b (lookUp l (p .workers .log)) (valueAt p l))
-      by-mark true = lookUp-keeps (Used p) l (p .workers .log) (n .logs) (λ l. absurd (omega arith))
-      by-mark false = n .values l
+  view-used n l = view-keeps (Used p) p l (n .logs) (λ some-l. absurd (omega arith)) (n .values l)
 
   since-new : {k : ℕ} → Named s p → Since s made k a
   unfolding viewValue allLogs

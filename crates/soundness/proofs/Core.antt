@@ -9,7 +9,7 @@
 -- A step of the collector is then: the core of the pool before, what the step does to the core, and where the collector arrives. Assumes nothing.
 use Prim.Native.Nat.{ℕ, _+_, _≤_, _<_, zero-le}
 use mathlib.Core.Path.{_≡_, refl, sym, ap, _∙_, subst}
-use mathlib.Core.Bool.{Bool, true, false, cond}
+use mathlib.Core.Bool.{Bool, true, false}
 use mathlib.Core.List.{List, [], _∷_}
 use native.Mathlib.Omega.{arith}
 use lib.Dec.{T}
@@ -20,12 +20,12 @@ use Rattle.rules.specs.declared.LinkNumber.{LinkNumber}
 use Rattle.rules.specs.declared.Collector.{Collector}
 use Rattle.rules.specs.Size.{links}
 use Rattle.rules.specs.Pool.{Entry, Pool, countAt, makerAt, valueAt, changedAt, registerAt, logAt, withCollector}
-use Rattle.rules.specs.View.{bit, times, oldIn, allLogs, lookUp, viewValue}
+use Rattle.rules.specs.View.{bit, times, oldIn, allLogs, viewValue}
 use Rattle.rules.specs.Sound.{Each, Shaped, EntryInRange, Sound, emptyIn, entriesIn, positions, uncleared, uncounted, outstanding, countsFor, tally}
 use Rattle.laws.proofs.Tests.{bit-most}
 use Rattle.laws.proofs.Lists.{length-flatten, Each-map}
 use Rattle.laws.proofs.Entries.{times-append}
-use Rattle.laws.proofs.LookUp.{lookUp-keeps}
+use Rattle.laws.proofs.LookUp.{view-keeps}
 use Rattle.laws.proofs.Room.{room}
 use Rattle.laws.proofs.Phases.{moved}
 
@@ -62,12 +62,7 @@ module _ {s : Sizes} {p : Pool} {clear count : List Entry} (c : Core s p clear c
 
   -- a view value is a record number
   pub view-low : (l : LinkNumber) → viewValue p l .0 ≤ s .n
-  unfolding viewValue allLogs
-  view-low l = by-mark (changedAt p l)
-    where
-      by-mark : (b : Bool) → cond b (lookUp l (p .workers .log)) (valueAt p l) .0 ≤ s .n
-      by-mark true = lookUp-keeps (λ a. a .0 ≤ s .n) l (p .workers .log) (Each-map (allLogs p) (λ e r. r .old) (c .logs)) zero-le
-      by-mark false = c .values l
+  view-low l = view-keeps (λ a. a .0 ≤ s .n) p l (Each-map (allLogs p) (λ e r. r .old) (c .logs)) zero-le (c .values l)
 
 -- ---- the core of a sound pool
 
