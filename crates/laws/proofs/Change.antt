@@ -1,8 +1,9 @@
 -- What an event leaves as it was.
 --     logged-keeps    what adding an entry to a log leaves, logging leaves
 --     stored-has      what holds of the pool that a store leaves, whether it logs and snoops or not
---     emptied-keeps   what emptying one link leaves, emptying the links of a record leaves
+--     emptied-has, emptied-keeps     what emptying one link keeps, emptying the links of a record keeps
 --     emptied-values, emptied-other, emptied-none  and each link then holds what it held, or none: none if it is the record's, else what it held
+--     frees-collector, frees-history, frees-workers, frees-changed     so freeing leaves these
 -- Assumes nothing.
 use Prim.Native.Nat.{ℕ, zero, suc, _+_, _≤_, _<_}
 use mathlib.Core.Path.{_≡_, refl, sym, ap, _∙_}
@@ -18,7 +19,7 @@ use Rattle.rules.specs.declared.LinkNumber.{LinkNumber}
 use Rattle.rules.specs.Size.{linkNumber}
 use Rattle.rules.specs.Pool.{Pool, none, withRecord, valueAt, changedAt, registerAt, snoopsAt, withHeld, withValue}
 use Rattle.rules.specs.Worker.{mustLog, added, logged, snooped, stores}
-use Rattle.rules.specs.Collect.{falls, emptied, emptiedFrom}
+use Rattle.rules.specs.Collect.{falls, emptied, emptiedFrom, frees}
 use Rattle.laws.proofs.Lists.{set-cases}
 
 -- ---- a store
@@ -57,31 +58,38 @@ module _ (s : Sizes) (p : Pool) (w q f r : ℕ) where
 
 -- ---- emptying the links of a record
 
+-- what emptying each link keeps, emptying them all keeps
+pub emptied-has : (P : Pool → Type 0) (s : Sizes) (a : RecordNumber) (f left : ℕ)
+    → ((g : ℕ) → f ≤ g → g < f + left → (p : Pool) → P p → P (emptied (linkNumber s a g) p))
+    → (p : Pool) → P p → P (emptiedFrom s a f left p)
+unfolding emptiedFrom
+emptied-has P s a f zero step p h = h
+emptied-has P s a f (suc left) step p h =
+    emptied-has P s a (suc f) left (λ g i j. step g (omega arith) (omega arith)) (emptied (linkNumber s a f) p) (step f (omega arith) (omega arith) p h)
+
 pub emptied-keeps : {A : Type 0} (field : Pool → A) → ((l : LinkNumber) (p : Pool) → field (emptied l p) ≡ field p)
     → (s : Sizes) (a : RecordNumber) (f left : ℕ) (p : Pool) → field (emptiedFrom s a f left p) ≡ field p
-unfolding emptiedFrom
-emptied-keeps field h s a f zero p = refl
-emptied-keeps field h s a f (suc left) p =
-    emptied-keeps field h s a (suc f) left (emptied (linkNumber s a f) p) ∙ h (linkNumber s a f) p
+emptied-keeps field h s a f left p = emptied-has (λ q. field q ≡ field p) s a f left (λ g i j q e. h (linkNumber s a g) q ∙ e) p refl
 
 pub emptied-values : (s : Sizes) (a : RecordNumber) (f left : ℕ) (p : Pool) (l : LinkNumber)
     → (valueAt (emptiedFrom s a f left p) l ≡ valueAt p l) ⊎ (valueAt (emptiedFrom s a f left p) l ≡ none)
-unfolding emptiedFrom emptied falls
-emptied-values s a f zero p l = inl refl
-emptied-values s a f (suc left) p l =
-    ⊎-elim
-    (λ e. ⊎-elim (λ same. inl (e ∙ same)) (λ here. inr (e ∙ here .1)) (set-cases (p .links .value) (linkNumber s a f .0) none l.0 none))
-    inr
-    (emptied-values s a (suc f) left (emptied (linkNumber s a f) p) l)
+unfolding emptied falls
+emptied-values s a f left p l =
+    emptied-has (λ q. (valueAt q l ≡ valueAt p l) ⊎ (valueAt q l ≡ none)) s a f left
+    (λ g i j q e.
+    ⊎-elim (λ same. ⊎-elim (λ h. inl (same ∙ h)) (λ h. inr (same ∙ h)) e) (λ here. inr (here .1)) (set-cases (q .links .value) (linkNumber s a g .0) none l.0 none))
+    p
+    (inl refl)
 
 -- a link that is none of them keeps its value
 pub emptied-other : (s : Sizes) (a : RecordNumber) (f left : ℕ) (p : Pool) (l : LinkNumber) → ((g : ℕ) → f ≤ g → g < f + left → l .0 ≡ linkNumber s a g .0 → ⊥)
     → valueAt (emptiedFrom s a f left p) l ≡ valueAt p l
-unfolding emptiedFrom emptied falls
-emptied-other s a f zero p l n = refl
-emptied-other s a f (suc left) p l n =
-    emptied-other s a (suc f) left (emptied (linkNumber s a f) p) l (λ g h k. n g (omega arith) (omega arith))
-    ∙ getD-set-other (p .links .value) (linkNumber s a f .0) l.0 none none (n f (omega arith) (omega arith))
+unfolding emptied falls
+emptied-other s a f left p l n =
+    emptied-has (λ q. valueAt q l ≡ valueAt p l) s a f left
+    (λ g i j q e. getD-set-other (q .links .value) (linkNumber s a g .0) l.0 none none (n g i j) ∙ e)
+    p
+    refl
 
 -- and each of them holds none
 pub emptied-none : (s : Sizes) (a : RecordNumber) (f left : ℕ) (p : Pool) → ((g : ℕ) → f ≤ g → g < f + left → linkNumber s a g .0 < length (p .links .value))
@@ -99,3 +107,22 @@ emptied-none s a f (suc left) p inside g h k =
     emptied-none s a (suc f) left (emptied (linkNumber s a f) p)
     (λ i x y. omega (arith, inside i (omega arith) (omega arith), length-set (p .links .value) (linkNumber s a f .0) none)) g lt (omega arith))
     (eq-or-lt-of-le h)
+
+-- ---- freeing
+
+module _ (s : Sizes) (a : RecordNumber) (p : Pool) where
+  pub frees-collector : frees s a p .collector ≡ p .collector
+  unfolding frees emptied falls
+  frees-collector = emptied-keeps (λ q. q .collector) (λ l q. refl) s a 0 (s .k) p
+
+  pub frees-history : frees s a p .history ≡ p .history
+  unfolding frees emptied falls
+  frees-history = emptied-keeps (λ q. q .history) (λ l q. refl) s a 0 (s .k) p
+
+  pub frees-workers : frees s a p .workers ≡ p .workers
+  unfolding frees emptied falls
+  frees-workers = emptied-keeps (λ q. q .workers) (λ l q. refl) s a 0 (s .k) p
+
+  pub frees-changed : frees s a p .links .changed ≡ p .links .changed
+  unfolding frees emptied falls
+  frees-changed = emptied-keeps (λ q. q .links .changed) (λ l q. refl) s a 0 (s .k) p

@@ -12,6 +12,7 @@
 --     Change     what a store and the emptying of links leave as it was
 --     Refusals   what is known of an event that is not refused
 --     Phases     the list of phases, and how a step moves on
+--     Runs       what every event keeps
 pub mod Tests
 pub mod Lists
 pub mod Number
@@ -25,3 +26,4 @@ pub mod Marks
 pub mod Change
 pub mod Refusals
 pub mod Phases
+pub mod Runs

@@ -9,7 +9,7 @@ use Prim.Native.Nat.{ℕ, _≤_, _<_}
 use mathlib.Core.Path.{_≡_, refl, sym, ap, _∙_, subst}
 use mathlib.Core.Logic.{_⊎_, inl, inr, ⊎-elim}
 use mathlib.Core.Bool.{true, false, true≢false}
-use mathlib.Core.List.{List, [], _∷_}
+use mathlib.Core.List.{List, []}
 use native.Mathlib.Omega.{arith}
 use native.Mathlib.Decide.{ℕ-discrete}
 use lib.ListN.{getD, set}
@@ -27,15 +27,16 @@ use Rattle.rules.specs.Sound.{Sound}
 use Rattle.laws.proofs.Number.{record-same, link-apart}
 use Rattle.laws.proofs.Lists.{set-cases}
 use Rattle.laws.proofs.Chosen.{chosen-free}
-use Rattle.laws.proofs.Change.{stored-has, emptied-keeps, emptied-values}
+use Rattle.laws.proofs.Change.{stored-has, frees-workers, emptied-values}
 use Rattle.laws.proofs.Refusals.{LinkThere, decided, can-make, can-load, can-store}
 use Rattle.laws.proofs.Search.{reclaims-cases}
 use Rattle.laws.proofs.Phases.{by-phase}
+use Rattle.laws.proofs.Runs.{run-keeps}
 use Rattle.soundness.proofs.Fresh.{nothing-held}
 use Rattle.promises.specs.Reach.{Reaches, holds, leads}
 use Rattle.promises.proofs.Invariant.{Named}
 use Rattle.promises.proofs.Register.{register-cases}
-use Rattle.promises.proofs.Reached.{reaches-some, reached-used}
+use Rattle.promises.proofs.Reached.{reaches-some, nothing-reached, reached-used}
 use Rattle.promises.proofs.Hold.{Reached, reached-fresh, reached-event}
 
 abbrev pub Apart : Sizes → Pool → Type 0
@@ -178,7 +179,7 @@ collected s p h =
     (λ e.
     reclaims-cases s p (λ o. Shrunk p (o .pool)) (λ z. record { registers = λ v r. refl; values = λ l. inl refl }) (λ y some low pass.
     record {
-      registers = λ v r. ap (λ ws. getD (getD (ws .registers) v []) r none) (emptied-keeps (λ q. q .workers) (λ l q. refl) s y 0 (s .k) p);
+      registers = λ v r. ap (λ ws. getD (getD (ws .registers) v []) r none) (frees-workers s y p);
       values = λ l. emptied-values s y 0 (s .k) p l;
     }))
 
@@ -203,18 +204,10 @@ apart-event s p x Collect h = decided (Apart s) p h _ _ (λ t. apart-collected (
 
 apart-fresh : (s : Sizes) → Apart s (fresh s)
 unfolding fresh
-apart-fresh s v w n a x y = nothing-reached x
-  where
-    nothing-reached : {u : ℕ} {b : RecordNumber} → Reaches s (fresh s) u b → ⊥
-    nothing-reached {u} (holds r e some) = omega (arith, ap (λ (c : RecordNumber). c .0) e, nothing-held s u r)
-    nothing-reached (leads f z k e some) = nothing-reached z
-
-apart-from : (s : Sizes) → inRange s ≡ true → (p : Pool) → Reached s p → Apart s p → (events : List Event) → Apart s (after s p events)
-unfolding after
-apart-from s r p x h [] = h
-apart-from s r p x h (e ∷ events) = apart-from s r (outcome s p e .pool) (reached-event s r p x e) (apart-event s p x e h) events
+apart-fresh s v w n a x y = nothing-reached (λ u r. record-same _ none (nothing-held s u r)) x
 
 -- at each place of a run from the fresh pool no record is in the reach of two workers
 pub two-workers-share-nothing : (s : Sizes) → inRange s ≡ true → (events : List Event) (v w : ℕ) → (v ≡ w → ⊥) → (a : RecordNumber)
     → Reaches s (after s (fresh s) events) v a → Reaches s (after s (fresh s) events) w a → ⊥
-two-workers-share-nothing s r events = apart-from s r (fresh s) (reached-fresh s) (apart-fresh s) events
+two-workers-share-nothing s r events =
+    run-keeps s (λ p. Reached s p × Apart s p) (λ p h e. (reached-event s r p (h .0) e, apart-event s p (h .0) e (h .1))) (fresh s) (reached-fresh s, apart-fresh s) events .1

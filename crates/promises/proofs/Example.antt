@@ -21,10 +21,10 @@ use Rattle.rules.specs.Pool.{Pool, none, usedAt, valueAt, registerAt, fresh}
 use Rattle.rules.specs.Outcome.{answers, after, answersFreed}
 use Rattle.rules.specs.Starred.{sizesOf}
 use Rattle.rules.proofs.Starred.{computes}
-use Rattle.promises.specs.Reach.{Reaches, holds, leads}
 use Rattle.promises.specs.Cycle.{Cycle, closing, going-on, freedAmong}
 use Rattle.promises.specs.Lost.{Lost, LeadsTo, link, on, LoopKeeps}
 use Rattle.promises.proofs.Promises.{lost-is-freed}
+use Rattle.promises.proofs.Reached.{nothing-reached}
 
 abbrev sizes : Sizes
 sizes = sizesOf 2 1 1 1
@@ -52,11 +52,6 @@ one-cycle =
       opens = record { before = refl; after = not-zero 0 };
       to-close = going-on (not-zero 1) (going-on (not-zero 3) (going-on (not-zero 5) (going-on (not-zero 5) (closing (record { before = not-zero 5; after = refl })))));
     }
-
--- where every register is empty, nothing is reached
-nothing-reached : {p : Pool} → ((w r : ℕ) → registerAt p w r ≡ none) → {w : ℕ} {a : RecordNumber} → Reaches sizes p w a → ⊥
-nothing-reached empty {w} (holds r e some) = omega (arith, ap (λ (b : RecordNumber). b .0) (sym (empty w r) ∙ e))
-nothing-reached empty (leads f x k e some) = nothing-reached empty x
 
 -- the one register is empty, and so are both links
 no-register : (w r : ℕ) → registerAt opened w r ≡ none

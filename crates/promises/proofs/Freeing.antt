@@ -7,7 +7,7 @@
 --     named-freed, phased-freed   it is freed
 --     named-closed                the close
 -- Assumes nothing.
-use Prim.Native.Nat.{ℕ, zero, suc, _+_, _-_, _≤_, _<_}
+use Prim.Native.Nat.{ℕ, zero, suc, _-_, _≤_, _<_}
 use mathlib.Core.Path.{_≡_, refl, sym, ap, _∙_, subst}
 use mathlib.Core.Logic.{⊎-elim}
 use mathlib.Core.Bool.{Bool, true, false, cond, true≢false}
@@ -30,6 +30,7 @@ use Rattle.laws.proofs.Number.{record-same, link-inside, link-apart}
 use Rattle.laws.proofs.Lists.{set-cases, ofRecord-same, ofRecord-other, Each-map, Each-map₂}
 use Rattle.laws.proofs.Entries.{times-each}
 use Rattle.laws.proofs.LookUp.{lookUp-each, view-marked, view-unmarked}
+use Rattle.laws.proofs.Change.{emptied-has}
 use Rattle.laws.proofs.Tally.{tally-here}
 use Rattle.laws.proofs.Search.{Passed}
 use Rattle.laws.proofs.Marks.{on-some, maker-some, falls-other, closes-candidate}
@@ -254,18 +255,16 @@ pub record Emptied (s : Sizes) (y : RecordNumber) (i : ℕ) (p : Pool) : Type 0 
   pub phased : Phased s p 6 i
   pub unnamed : Unnamed s p y
 
-pub emptied-through : (s : Sizes) (y : RecordNumber) (i f left : ℕ) (p : Pool) → 1 ≤ y .0 → y .0 ≤ s .n → f + left ≤ s .k
-    → Emptied s y i p → Emptied s y i (emptiedFrom s y f left p)
-unfolding emptiedFrom
-emptied-through s y i f zero p some low k x = x
-emptied-through s y i f (suc left) p some low k x =
-    let inside : f < s .k = omega arith in
-    emptied-through s y i (suc f) left (emptied (linkNumber s y f) p) some low (omega arith)
-    (record {
-      named = named-emptied y some low f inside (x .unnamed) (x .named);
-      phased = phased-emptied y some low f inside (x .unnamed) (x .phased);
-      unnamed = unnamed-emptied y some low f inside (x .unnamed);
+pub emptied-through : (s : Sizes) (y : RecordNumber) (i : ℕ) (p : Pool) → 1 ≤ y .0 → y .0 ≤ s .n → Emptied s y i p → Emptied s y i (emptiedFrom s y 0 (s .k) p)
+emptied-through s y i p some low =
+    emptied-has (Emptied s y i) s y 0 (s .k) (λ g a b q x.
+    let inside : g < s .k = omega arith in
+    record {
+      named = named-emptied y some low g inside (x .unnamed) (x .named);
+      phased = phased-emptied y some low g inside (x .unnamed) (x .phased);
+      unnamed = unnamed-emptied y some low g inside (x .unnamed);
     })
+    p
 
 -- ---- it is free
 

@@ -5,7 +5,7 @@
 -- Assumes nothing.
 use mathlib.Core.Path.{_≡_, refl, sym, ap, subst}
 use mathlib.Core.Bool.{true, false}
-use mathlib.Core.List.{List, [], _∷_}
+use mathlib.Core.List.{List}
 use native.Mathlib.Omega.{arith}
 use Rattle.rules.specs.declared.Sizes.{Sizes}
 use Rattle.rules.specs.declared.RecordNumber.{RecordNumber}
@@ -16,6 +16,7 @@ use Rattle.rules.specs.Pool.{Pool, fresh}
 use Rattle.rules.specs.Outcome.{does, outcome, after}
 use Rattle.rules.specs.Sound.{Each, Sound}
 use Rattle.laws.proofs.Refusals.{decided, can-make, can-load, can-store}
+use Rattle.laws.proofs.Runs.{run-keeps}
 use Rattle.soundness.proofs.Fresh.{getD-same, ofRecord-all, no-logs, nothing-held, empty}
 use Rattle.soundness.proofs.Kept.{fresh-is-sound, event-keeps-sound}
 use Rattle.promises.proofs.Invariant.{Used}
@@ -60,10 +61,5 @@ reached-fresh s = record { sound = fresh-is-sound s; state = fresh-state s }
 pub reached-event : (s : Sizes) → inRange s ≡ true → (p : Pool) → Reached s p → (e : Event) → Reached s (outcome s p e .pool)
 reached-event s r p x e = record { sound = event-keeps-sound s r p (x .sound) e; state = event-keeps s p (x .sound) (x .state) e }
 
-from-reached : (s : Sizes) → inRange s ≡ true → (p : Pool) → Reached s p → (events : List Event) → Reached s (after s p events)
-unfolding after
-from-reached s r p x [] = x
-from-reached s r p x (e ∷ events) = from-reached s r (outcome s p e .pool) (reached-event s r p x e) events
-
 pub run-holds : (s : Sizes) → inRange s ≡ true → (events : List Event) → Reached s (after s (fresh s) events)
-run-holds s r events = from-reached s r (fresh s) (reached-fresh s) events
+run-holds s r events = run-keeps s (Reached s) (reached-event s r) (fresh s) (reached-fresh s) events

@@ -31,7 +31,7 @@ use Rattle.rules.specs.Pool.{Entry, Pool, none, countAt, valueAt, changedAt, re
 use Rattle.rules.specs.View.{times, oldIn, lookUp, viewValue}
 use Rattle.rules.specs.Reply.{value, Outcome}
 use Rattle.rules.specs.Worker.{makes, moves, drops, loads, added, stores}
-use Rattle.rules.specs.Collect.{stepped, opens, snoops, madeBy, takes, noEntry, entryHere, clears, heldBy, scans, falls, rises, counted, counts, emptied, frees, closes, reclaims}
+use Rattle.rules.specs.Collect.{stepped, opens, snoops, madeBy, takes, noEntry, entryHere, clears, heldBy, scans, falls, rises, counted, counts, frees, closes, reclaims}
 use Rattle.rules.specs.Outcome.{refused, does, outcome, after}
 use Rattle.rules.specs.Sound.{Sound, uncleared, tally}
 use Rattle.laws.proofs.Tests.{eqb-cases, and-left, and-right, bit-on}
@@ -40,7 +40,7 @@ use Rattle.laws.proofs.Lists.{set-cases}
 use Rattle.laws.proofs.Entries.{times-one, times-from, oldIn-absent, oldIn-there}
 use Rattle.laws.proofs.LookUp.{view-unmarked}
 use Rattle.laws.proofs.Tally.{tally-same}
-use Rattle.laws.proofs.Change.{stored-has, emptied-keeps, emptied-other, emptied-none}
+use Rattle.laws.proofs.Change.{frees-collector, frees-workers, frees-changed, stored-has, emptied-other, emptied-none}
 use Rattle.laws.proofs.Search.{Passed, reclaims-cases}
 use Rattle.laws.proofs.Refusals.{decided-outcome, can-store}
 use Rattle.laws.proofs.Phases.{by-phase, moved, snoops-cases, takes-cases, clears-cases, scans-cases, counts-cases}
@@ -262,25 +262,13 @@ module _ {s : Sizes} {p : Pool} (sound : Sound s p) (seen : LinkNumber → Recor
     abbrev freed : Pool
     freed = frees s y p
 
-    same-marks : freed .links .changed ≡ p .links .changed
-    unfolding frees emptied falls
-    same-marks = emptied-keeps (λ q. q .links .changed) (λ l q. refl) s y 0 (s .k) p
-
-    same-workers : freed .workers ≡ p .workers
-    unfolding frees emptied falls
-    same-workers = emptied-keeps (λ q. q .workers) (λ l q. refl) s y 0 (s .k) p
-
-    same-collector : freed .collector ≡ p .collector
-    unfolding frees emptied falls
-    same-collector = emptied-keeps (λ q. q .collector) (λ l q. refl) s y 0 (s .k) p
-
     -- in phase 6 what was seen is the view value
     seen-view : (l : LinkNumber) → seenIn freed l ≡ viewValue freed l
     unfolding uncleared oldIn
-    seen-view l = ap (λ (n : ℕ). oldIn l (unclearedIn n (freed .collector .position) (freed .history)) (viewValue freed l)) (ap (λ c. c .phase) same-collector ∙ e)
+    seen-view l = ap (λ (n : ℕ). oldIn l (unclearedIn n (freed .collector .position) (freed .history)) (viewValue freed l)) (ap (λ c. c .phase) (frees-collector s y p) ∙ e)
 
     mark-stays : (l : LinkNumber) → changedAt freed l ≡ changedAt p l
-    mark-stays l = ap (λ marks. getD marks l.0 false) same-marks
+    mark-stays l = ap (λ marks. getD marks l.0 false) (frees-changed s y p)
 
     -- a link of the record is emptied
     own-link : (g : ℕ) → g < s .k → viewValue freed (linkNumber s y g) ≡ none
@@ -294,7 +282,7 @@ module _ {s : Sizes} {p : Pool} (sound : Sound s p) (seen : LinkNumber → Recor
     unfolding frees viewValue
     other-link l n =
         let value : valueAt freed l ≡ valueAt p l = emptied-other s y 0 (s .k) p l (λ g a b. n g (omega arith)) in
-        λ j. cond (mark-stays l j) (lookUp l (same-workers j .log)) (value j)
+        λ j. cond (mark-stays l j) (lookUp l (frees-workers s y p j .log)) (value j)
 
     frees-sees : (l : LinkNumber) → l .0 < links s → cond (cleared p freed l) (valueAt p l) (cond (isLinkOf s y l) none (seen l)) ≡ seenIn freed l
     unfolding oldIn

@@ -41,7 +41,7 @@ use Rattle.laws.proofs.Lists.{ofRecord-other, Each-all, Each-map}
 use Rattle.laws.proofs.Entries.{times-foreign}
 use Rattle.laws.proofs.LookUp.{lookUp-keeps, view-marked, view-unmarked}
 use Rattle.laws.proofs.Tally.{tally-found}
-use Rattle.laws.proofs.Change.{stored-has, emptied-keeps, emptied-values, emptied-other, emptied-none}
+use Rattle.laws.proofs.Change.{frees-collector, frees-workers, stored-has, emptied-keeps, emptied-values, emptied-other, emptied-none}
 use Rattle.laws.proofs.Marks.{on-low}
 use Rattle.laws.proofs.Search.{Passed, passes-all, reclaimed-none, reclaims-cases}
 use Rattle.laws.proofs.Refusals.{LinkThere, decided-outcome, can-make, can-load, can-store}
@@ -73,12 +73,8 @@ module _ {s : Sizes} {p₀ p : Pool} {R : RecordNumber → Type 0} (sound : Soun
   unfolding frees
   freed-value l = emptied-values s y 0 (s .k) p l
 
-  freed-workers : freed .workers ≡ p .workers
-  unfolding frees emptied falls
-  freed-workers = emptied-keeps (λ q. q .workers) (λ l q. refl) s y 0 (s .k) p
-
   shrunk : Shrunk p freed
-  shrunk = record { registers = λ v r. ap (λ ws. getD (getD (ws .registers) v []) r none) freed-workers; values = freed-value }
+  shrunk = record { registers = λ v r. ap (λ ws. getD (getD (ws .registers) v []) r none) (frees-workers s y p); values = freed-value }
 
   frees-remains : Remains s p₀ freed Others 6 (p .collector .position)
   unfolding frees emptied falls
@@ -93,7 +89,7 @@ module _ {s : Sizes} {p₀ p : Pool} {R : RecordNumber → Type 0} (sound : Soun
             (ap (λ table. ofRecord table x.0 false) (emptied-keeps (λ q. q .records .held) (λ m q. refl) s y 0 (s .k) p) ∙ l .unheld)
             (λ f k. emptied-other s y 0 (s .k) p (linkNumber s x f) (λ g a b e. apart-from x (z .1) (link-apart s x y f g (left-some l) some k (omega arith) e)))
             (λ v e. l .maker v (sym (ap (λ table. ofRecord table x.0 0) (emptied-keeps (λ q. q .records .maker) (λ m q. refl) s y 0 (s .k) p)) ∙ e))
-            (λ w k. subst (λ ws. Each (Foreign s x) (getD (ws .log) w [])) (sym freed-workers) (l .logs w k));
+            (λ w k. subst (λ ws. Each (Foreign s x) (getD (ws .log) w [])) (sym (frees-workers s y p)) (l .logs w k));
         holders = λ l x z e. ⊎-elim (λ same. other-holder l x z e (h .holders l x (z .0) (sym same ∙ e))) (λ nothing. absurd (nothing-there x z (sym nothing ∙ e))) (freed-value l);
       }
     where
@@ -185,14 +181,10 @@ module _ {s : Sizes} {p₀ p : Pool} {R : RecordNumber → Type 0} (sound : Soun
 
 -- ---- every event but the close
 
--- neither a store nor freeing moves the collector's record
+-- a store does not move the collector's record
 stores-collector : (s : Sizes) (p : Pool) (w q f r : ℕ) → stores s w q f r p .pool .collector ≡ p .collector
 unfolding added
 stores-collector s p w q f r = stored-has s p w q f r (λ t. t .collector ≡ p .collector) (λ on t h. h) (λ off. refl) (λ on. refl)
-
-frees-collector : (s : Sizes) (y : RecordNumber) (p : Pool) → frees s y p .collector ≡ p .collector
-unfolding frees emptied falls
-frees-collector s y p = emptied-keeps (λ q. q .collector) (λ l q. refl) s y 0 (s .k) p
 
 -- those that remain after an answer
 abbrev Since : (RecordNumber → Type 0) → Event → Outcome → RecordNumber → Type 0

@@ -8,6 +8,7 @@
 --     marked-inside      a link whose mark is on has a number below S
 --     reached-kept       in phase 6 what a worker reaches is kept
 --     reaches-some, reached-used     what is reached is a record, and is used
+--     nothing-reached    where every register is empty nothing is reached
 --     freed-unreached    a record that an event frees passed the search, so that nothing keeps it and no worker reaches it
 --     reached-used-after     so what is reached stays used
 -- Assumes nothing.
@@ -23,7 +24,7 @@ use Rattle.rules.specs.declared.RecordNumber.{RecordNumber}
 use Rattle.rules.specs.declared.LinkNumber.{LinkNumber}
 use Rattle.rules.specs.declared.Event.{Event}
 use Rattle.rules.specs.Size.{links, linkNumber}
-use Rattle.rules.specs.Pool.{Pool, none, usedAt, changedAt, registersAt}
+use Rattle.rules.specs.Pool.{Pool, none, usedAt, changedAt, registersAt, registerAt}
 use Rattle.rules.specs.Outcome.{answersMade, answersFreed, usedAfter, outcome}
 use Rattle.rules.specs.Sound.{Sound}
 use Rattle.laws.proofs.Tests.{below-or-not}
@@ -37,6 +38,11 @@ use Rattle.promises.proofs.Run.{State, phased-in, taken-unnamed}
 pub reaches-some : {s : Sizes} {p : Pool} {w : ℕ} {a : RecordNumber} → Reaches s p w a → 1 ≤ a .0
 reaches-some (holds r e some) = some
 reaches-some (leads f x k e some) = some
+
+-- where every register is empty, nothing is reached
+pub nothing-reached : {s : Sizes} {p : Pool} → ((w r : ℕ) → registerAt p w r ≡ none) → {w : ℕ} {a : RecordNumber} → Reaches s p w a → ⊥
+nothing-reached empty {w} (holds r e some) = omega (arith, ap (λ (b : RecordNumber). b .0) (sym (empty w r) ∙ e))
+nothing-reached empty (leads f x k e some) = nothing-reached empty x
 
 pub reached-used : {s : Sizes} {p : Pool} → Named s p → {v : ℕ} {a : RecordNumber} → Reaches s p v a → usedAt p a ≡ true
 reached-used {s} {p} n {v} (holds r e some) = subst (Used p) e (n .registers v r) some

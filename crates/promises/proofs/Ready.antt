@@ -4,7 +4,7 @@
 --     event-ready      every event keeps it
 --     fresh-ready      the fresh pool has it
 -- Assumes nothing.
-use Prim.Native.Nat.{ℕ, zero, suc, _+_, _-_, _≤_, _<_}
+use Prim.Native.Nat.{ℕ, suc, _+_, _-_, _≤_, _<_}
 use mathlib.Core.Path.{_≡_, refl, sym, ap, _∙_, subst}
 use mathlib.Core.Logic.{inr, ⊎-elim}
 use mathlib.Core.Bool.{true, false, true≢false}
@@ -15,24 +15,23 @@ use Rattle.rules.specs.declared.Sizes.{Sizes}
 use Rattle.rules.specs.declared.RecordNumber.{RecordNumber}
 use Rattle.rules.specs.declared.Event.{Event}
 use Rattle.rules.specs.declared.Event.the-variants.{Make, Move, Drop, Load, Store, Collect}
-use Rattle.rules.specs.Size.{linkNumber}
-use Rattle.rules.specs.Pool.{Pool, ofRecord, withRecord, usedAt, countAt, heldAt, candidateAt, makerAt, valueAt, changedAt, logAt, registersAt, withHeld, withSnoop, withLog, withHistory, withChanged, fresh}
+use Rattle.rules.specs.Pool.{Pool, ofRecord, withRecord, usedAt, countAt, heldAt, candidateAt, makerAt, valueAt, logAt, registersAt, withHeld, withSnoop, withLog, withHistory, withChanged, fresh}
 use Rattle.rules.specs.View.{viewValue}
 use Rattle.rules.specs.Worker.{chosen, makes, moves, drops, loads, added, stores}
 use Rattle.rules.specs.Collect.{opens, snoops, madeBy, takes, entryHere, clears, heldBy, scans, falls, rises, counted, counts, emptied, emptiedFrom, frees, closes, reclaims}
 use Rattle.rules.specs.Outcome.{does, outcome}
 use Rattle.rules.specs.Sound.{Sound}
 use Rattle.laws.proofs.Tests.{eqb-cases}
-use Rattle.laws.proofs.Number.{record-same, link-inside}
+use Rattle.laws.proofs.Number.{record-same}
 use Rattle.laws.proofs.Lists.{ofRecord-same, ofRecord-other, withRecord-cases}
 use Rattle.laws.proofs.Chosen.{chosen-low}
-use Rattle.laws.proofs.Change.{stored-has, emptied-keeps}
+use Rattle.laws.proofs.Change.{stored-has, emptied-keeps, frees-collector}
 use Rattle.laws.proofs.Marks.{on-some, made-other, made-candidate, made-candidate-own, falls-candidate, falls-own, closes-held, closes-stays}
 use Rattle.laws.proofs.Search.{Passed, reclaims-cases}
 use Rattle.laws.proofs.Refusals.{decided, can-make, can-store}
 use Rattle.laws.proofs.Phases.{by-phase, moved, snoops-cases, takes-cases, clears-cases, scans-cases, counts-cases}
-use Rattle.soundness.proofs.Core.{Core, core-in}
-use Rattle.soundness.proofs.Count.{core-emptied}
+use Rattle.soundness.proofs.Core.{core-in}
+use Rattle.soundness.proofs.Reclaim.{core-emptied-has}
 use Rattle.soundness.proofs.Fresh.{ofRecord-all}
 use Rattle.soundness.proofs.Known.{entry-below}
 use Rattle.promises.proofs.Invariant.{snoopsIn}
@@ -163,31 +162,25 @@ module _ {s : Sizes} {p : Pool} (sound : Sound s p) (ready : Ready p) where
   -- ---- freeing
 
   module _ (e : p .collector .phase ≡ 6) (y : RecordNumber) (some : 1 ≤ y .0) (low : y .0 ≤ s .n) (pass : Passed s p y) where
-    emptied-waits : (f left : ℕ) (q : Pool) → Core s q [] [] → f + left ≤ s .k
-        → ((g : ℕ) → f ≤ g → g < f + left → changedAt q (linkNumber s y g) ≡ false)
-        → Waiting q → Waiting (emptiedFrom s y f left q)
-    unfolding emptiedFrom emptied falls Waiting
-    emptied-waits f zero q c k off h = h
-    emptied-waits f (suc left) q c k off h =
-        emptied-waits (suc f) left (emptied (linkNumber s y f) q)
-        (core-emptied c (linkNumber s y f) (link-inside s y f some low (omega arith)) (off f (omega arith) (omega arith)))
-        (omega arith)
-        (λ g i j. off g (omega arith) (omega arith))
-        (waiting-falls (valueAt q (linkNumber s y f)) q (omega (arith, c .values (linkNumber s y f), c .shaped .records .candidate)) h)
+    emptied-waits : Waiting (emptiedFrom s y 0 (s .k) p)
+    unfolding emptied falls Waiting
+    emptied-waits =
+        core-emptied-has Waiting s (λ l q c h. waiting-falls (valueAt q l) q (omega (arith, c .values l, c .shaped .records .candidate)) h) y (s .k) p
+        (core-in sound 6 e) some low (omega arith) pass waits .1
 
     frees-ready : Ready (frees s y p)
     unfolding frees emptied falls Waiting
     frees-ready =
         record {
           waiting = λ a used zero-count none. freed-waits a used zero-count none;
-          unheld = λ z. absurd (omega (arith, e, ap (λ c. c .phase) (emptied-keeps (λ r. r .collector) (λ l r. refl) s y 0 (s .k) p)));
+          unheld = λ z. absurd (omega (arith, e, ap (λ c. c .phase) (frees-collector s y p)));
         }
       where
         q : Pool
         q = emptiedFrom s y 0 (s .k) p
 
         after : (a : RecordNumber) → usedAt q a ≡ true → countAt q a ≡ 0 → makerAt q a ≡ 0 → candidateAt q a ≡ true
-        after = emptied-waits 0 (s .k) p (core-in sound 6 e) (omega arith) (λ g i j. pass .unchanged g (omega arith)) waits
+        after = emptied-waits
 
         -- the record freed is not used
         not-used : usedAt (frees s y p) y ≡ false

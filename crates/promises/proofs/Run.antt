@@ -24,7 +24,7 @@ use Rattle.rules.specs.Collect.{opens, snoops, madeBy, takes, noEntry, entryHer
 use Rattle.rules.specs.Sound.{Each, Sound}
 use Rattle.laws.proofs.Number.{link-inside}
 use Rattle.laws.proofs.Lists.{Each-at}
-use Rattle.laws.proofs.Change.{emptied-keeps, emptied-none}
+use Rattle.laws.proofs.Change.{frees-collector, emptied-none}
 use Rattle.laws.proofs.Search.{Passed, reclaims-cases}
 use Rattle.laws.proofs.Phases.{by-phase, moved, snoops-cases, takes-cases, clears-cases, scans-cases, counts-cases}
 use Rattle.soundness.proofs.Core.{Core, core-in, position-in, empty-in}
@@ -203,7 +203,7 @@ module _ {s : Sizes} {p : Pool} (sound : Sound s p) (state : State s p) where
     frees-kept y some low pass =
         record {
           named = named-freed s q y some low-used low-candidate all none-left;
-          phased = subst (λ (c : Collector). Phased s (frees s y p) (c .phase) (c .position)) (sym (emptied-keeps (λ r. r .collector) (λ l r. refl) s y 0 (s .k) p)) (subst (λ (k : ℕ). Phased s (frees s y p) k here) (sym e) (phased-freed s q y some low-used low-candidate all none-left));
+          phased = subst (λ (c : Collector). Phased s (frees s y p) (c .phase) (c .position)) (sym (frees-collector s y p)) (subst (λ (k : ℕ). Phased s (frees s y p) k here) (sym e) (phased-freed s q y some low-used low-candidate all none-left));
         }
       where
         q : Pool
@@ -211,7 +211,7 @@ module _ {s : Sizes} {p : Pool} (sound : Sound s p) (state : State s p) where
 
         all : Emptied s y here q
         all =
-            emptied-through s y here 0 (s .k) p some low (omega arith)
+            emptied-through s y here p some low
             (record { named = state .named; phased = phased-in 6 e; unnamed = taken-unnamed y some low pass })
 
         none-left : (f : ℕ) → f < s .k → valueAt q (linkNumber s y f) ≡ none
@@ -219,7 +219,7 @@ module _ {s : Sizes} {p : Pool} (sound : Sound s p) (state : State s p) where
             emptied-none s y 0 (s .k) p (λ g a b. omega (arith, link-inside s y g some low (omega arith), sound .shaped .links .value)) f zero-le (omega arith)
 
         after : Core s q [] []
-        after = core-emptied-from s y 0 (s .k) p core-6 some low (omega arith) (λ g i j. pass .unchanged g (omega arith))
+        after = core-emptied-from s y (s .k) p core-6 some low (omega arith) pass
 
         low-used : y .0 ≤ length (q .records .used)
         low-used = omega (arith, after .shaped .records .used)

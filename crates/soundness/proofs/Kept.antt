@@ -13,7 +13,7 @@
 use Prim.Native.Nat.{ℕ}
 use mathlib.Core.Path.{_≡_}
 use mathlib.Core.Bool.{true}
-use mathlib.Core.List.{List, [], _∷_}
+use mathlib.Core.List.{List}
 use lib.ListN.{take}
 use Rattle.rules.specs.declared.Sizes.{Sizes}
 use Rattle.rules.specs.declared.Event.{Event}
@@ -24,6 +24,7 @@ use Rattle.rules.specs.Outcome.{does, outcome, after}
 use Rattle.rules.specs.Sound.{Sound}
 use Rattle.laws.proofs.Number.{bounds}
 use Rattle.laws.proofs.Refusals.{decided, can-make, can-store}
+use Rattle.laws.proofs.Runs.{run-keeps}
 use Rattle.soundness.proofs.Steps.{collects-sound}
 use Rattle.soundness.proofs.Events.{makes-sound, moves-sound, drops-sound, loads-sound, stores-sound}
 use Rattle.soundness.proofs.Fresh.{fresh-sound}
@@ -41,12 +42,6 @@ event-keeps-sound s r p h (Store w q f g) =
     decided (Sound s) p h _ _ (λ t. let k = can-store s p w q f g t in stores-sound h w q f g (k .0 .worker) (k .2 .link) (k .2 .holds))
 event-keeps-sound s r p h Collect = decided (Sound s) p h _ _ (λ t. collects-sound (bounds s r .w-least) h)
 
--- every pool of a run from a sound one is sound
-from-sound : (s : Sizes) → inRange s ≡ true → (p : Pool) → Sound s p → (events : List Event) → Sound s (after s p events)
-unfolding after
-from-sound s r p h [] = h
-from-sound s r p h (e ∷ events) = from-sound s r (outcome s p e .pool) (event-keeps-sound s r p h e) events
-
 -- the pool after the first i events of a run
 pub run-is-sound : (s : Sizes) → inRange s ≡ true → (events : List Event) (i : ℕ) → Sound s (after s (fresh s) (take i events))
-run-is-sound s r events i = from-sound s r (fresh s) (fresh-is-sound s) (take i events)
+run-is-sound s r events i = run-keeps s (Sound s) (event-keeps-sound s r) (fresh s) (fresh-is-sound s) (take i events)

@@ -1,21 +1,23 @@
 -- Phase 6 keeps the core: every mark of the freed record is off, so each of its links counts for its present value, and each emptied link moves from that to
 -- none.
---     core-emptied-from, core-freed   freeing a record
+--     core-emptied-has, core-emptied-from, core-freed   freeing a record
 --     core-closed                     the marks at the close
 -- Assumes nothing.
-use Prim.Native.Nat.{ℕ, zero, suc, _+_, _≤_, _<_}
-use mathlib.Core.Path.{_≡_, sym, _∙_}
+use Prim.Native.Nat.{ℕ, _≤_}
+use mathlib.Core.Path.{_≡_, refl, sym, ap, _∙_}
 use mathlib.Core.Bool.{false, _&&_}
 use mathlib.Core.List.{List, [], map, zipWith}
 use native.Mathlib.Omega.{arith}
 use lib.Dec.{eqb}
-use lib.ListN.{length-map}
+use lib.ListN.{getD, length-map}
 use Rattle.rules.specs.declared.Sizes.{Sizes}
 use Rattle.rules.specs.declared.RecordNumber.{RecordNumber}
+use Rattle.rules.specs.declared.LinkNumber.{LinkNumber}
 use Rattle.rules.specs.Size.{linkNumber}
 use Rattle.rules.specs.Pool.{Entry, Pool, withRecord, changedAt, withHeld, withCandidate}
 use Rattle.rules.specs.Collect.{falls, emptied, emptiedFrom, frees}
 use Rattle.laws.proofs.Number.{link-inside}
+use Rattle.laws.proofs.Change.{emptied-has}
 use Rattle.laws.proofs.Search.{Passed}
 use Rattle.laws.proofs.Lists.{length-withRecord, length-zipWith}
 use Rattle.soundness.proofs.Core.{Core}
@@ -24,18 +26,23 @@ use Rattle.soundness.proofs.Count.{core-emptied}
 
 -- ---- freeing
 
-pub core-emptied-from : (s : Sizes) (a : RecordNumber) (f left : ℕ) (p : Pool) → Core s p [] [] → 1 ≤ a .0 → a .0 ≤ s .n → f + left ≤ s .k
-    → ((g : ℕ) → f ≤ g → g < f + left → changedAt p (linkNumber s a g) ≡ false)
-    → Core s (emptiedFrom s a f left p) [] []
-unfolding emptiedFrom emptied falls
-core-emptied-from s a f zero p c h k q off = c
-core-emptied-from s a f (suc left) p c h k q off =
-    core-emptied-from s a (suc f) left (emptied (linkNumber s a f) p)
-    (core-emptied c (linkNumber s a f) (link-inside s a f h k (omega arith)) (off f (omega arith) (omega arith)))
-    h
-    k
-    (omega arith)
-    (λ g i j. off g (omega arith) (omega arith))
+-- the lowest m of its links are emptied: the core stays, and so does what emptying one link keeps where the core is there
+pub core-emptied-has : (P : Pool → Type 0) (s : Sizes) → ((l : LinkNumber) (q : Pool) → Core s q [] [] → P q → P (emptied l q))
+    → (a : RecordNumber) (m : ℕ) (p : Pool) → Core s p [] [] → 1 ≤ a .0 → a .0 ≤ s .n → m ≤ s .k → Passed s p a → P p
+    → Core s (emptiedFrom s a 0 m p) [] [] × P (emptiedFrom s a 0 m p)
+unfolding emptied falls
+core-emptied-has P s step a m p c h k most pass start =
+    emptied-has (λ q. (Core s q [] [] × P q) × (q .links .changed ≡ p .links .changed)) s a 0 m
+    (λ g i j q x.
+    let l : LinkNumber = linkNumber s a g in
+    let off : changedAt q l ≡ false = ap (λ marks. getD marks l.0 false) (x .1) ∙ pass .unchanged g (omega arith) in
+    ((core-emptied (x .0 .0) l (link-inside s a g h k (omega arith)) off, step l q (x .0 .0) (x .0 .1)), x .1))
+    p
+    ((c, start), refl) .0
+
+pub core-emptied-from : (s : Sizes) (a : RecordNumber) (m : ℕ) (p : Pool) → Core s p [] [] → 1 ≤ a .0 → a .0 ≤ s .n → m ≤ s .k → Passed s p a
+    → Core s (emptiedFrom s a 0 m p) [] []
+core-emptied-from s a m p c h k most pass = core-emptied-has (λ q. Unit {0}) s (λ l q x y. tt) a m p c h k most pass tt .0
 
 pub core-freed : (s : Sizes) (a : RecordNumber) (p : Pool) → Core s p [] [] → 1 ≤ a .0 → a .0 ≤ s .n → Passed s p a → Core s (frees s a p) [] []
 unfolding frees
@@ -51,7 +58,7 @@ core-freed s a p c h k pass =
     q = emptiedFrom s a 0 (s .k) p
 
     emptied-core : Core s q [] []
-    emptied-core = core-emptied-from s a 0 (s .k) p c h k (omega arith) (λ g i j. pass .unchanged g (omega arith))
+    emptied-core = core-emptied-from s a (s .k) p c h k (omega arith) pass
 
 -- ---- the close
 

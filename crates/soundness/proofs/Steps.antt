@@ -15,9 +15,9 @@ use Rattle.rules.specs.declared.RecordNumber.{RecordNumber}
 use Rattle.rules.specs.declared.Collector.{Collector}
 use Rattle.rules.specs.Pool.{Entry, Pool, registersAt, logAt, withHeld, withChanged, withSnoop, withLog, withHistory}
 use Rattle.rules.specs.Collect.{opens, snoops, madeBy, takes, entryHere, clears, heldBy, scans, falls, rises, counted, counts}
-use Rattle.rules.specs.Collect.{emptied, frees, closes, reclaims, collects}
+use Rattle.rules.specs.Collect.{frees, closes, reclaims, collects}
 use Rattle.rules.specs.Sound.{Sound, emptyIn, entriesIn, positions, uncleared, uncounted}
-use Rattle.laws.proofs.Change.{emptied-keeps}
+use Rattle.laws.proofs.Change.{frees-collector, frees-history}
 use Rattle.laws.proofs.Search.{reclaims-cases}
 use Rattle.laws.proofs.Phases.{by-phase, snoops-cases, takes-cases, clears-cases, scans-cases, counts-cases}
 use Rattle.soundness.proofs.Core.{Core, core-in, position-in, empty-in, sound, core-moved, arrives, unclearedIn, uncountedIn, positionsIn}
@@ -140,9 +140,9 @@ module _ {s : Sizes} {p : Pool} (worker : 0 < s .w) (h : Sound s p) where
 
   -- "Phase 6 stays."
   frees-sound : (a : RecordNumber) → p .collector .phase ≡ 6 → Core s (frees s a p) [] [] → Sound s (frees s a p)
-  unfolding frees emptied falls uncleared uncounted
+  unfolding uncleared uncounted
   frees-sound a e c =
-      stays h (frees s a p) (sym (emptied-keeps (λ q. q .collector) (λ l q. refl) s a 0 (s .k) p)) (sym (emptied-keeps (λ q. q .history) (λ l q. refl) s a 0 (s .k) p))
+      stays h (frees s a p) (sym (frees-collector s a p)) (sym (frees-history s a p))
       (subst (λ (n : ℕ). Core s (frees s a p) (unclearedIn n here (p .history)) (uncountedIn n here (p .history))) (sym e) c)
 
   reclaims-sound : p .collector .phase ≡ 6 → Sound s (reclaims s p .pool)
