@@ -5,14 +5,14 @@
 --     set-cases                               a table of which one place is written
 --     ofRecord-same, ofRecord-other, withRecord-cases, length-withRecord     a table of the records, with another thing for one record
 --     length-zipWith, getD-zipWith            a table made of two
---     set-keeps, set-keeps-below, map-keeps, withRecord-keeps, map-ofRecord-keeps     what holds at every place of a table
+--     set-keeps, set-keeps-below, set-next, map-keeps, withRecord-keeps, map-ofRecord-keeps     what holds at every place of a table
 -- Assumes nothing.
 use Prim.Native.Nat.{ℕ, zero, suc, _≤_, _<_, zero-le, suc-le-suc}
 use mathlib.Core.Path.{_≡_, refl, sym, ap, _∙_, subst}
 use mathlib.Core.Logic.{_⊎_, inl, inr, ⊎-elim}
 use mathlib.Core.List.{List, [], _∷_, _++_, flatten, append-assoc, map, zipWith}
 use native.Mathlib.Omega.{arith}
-use native.Mathlib.Nat.{le-of-suc-le-suc, not-suc-le-zero}
+use native.Mathlib.Nat.{eq-or-lt-of-le, le-of-suc-le-suc, not-suc-le-zero}
 use lib.ListN.{length, getD, take, drop, set, length-append, length-set}
 use lib.Seq.{getD-set-same, getD-set-other}
 use Rattle.rules.specs.Pool.{ofRecord, withRecord}
@@ -144,6 +144,14 @@ module _ {A : Type 0} (P : A → Type 0) (d : A) where
       → (j : ℕ) → j < length xs → P (getD (set xs i x) j d)
   set-keeps-below xs i x h all j k =
       ⊎-elim (λ e. subst P (sym e) (all j k)) (λ e. subst P (sym (e .1)) (h (subst (λ (m : ℕ). m < length xs) (e .0) k))) (set-cases xs i x j d)
+
+  -- what holds below a place holds one further, once what is written there has it
+  pub set-next : (xs : List A) (i : ℕ) (x : A) → i < length xs → P x → ((j : ℕ) → j < i → P (getD xs j d)) → (j : ℕ) → j < suc i → P (getD (set xs i x) j d)
+  set-next xs i x inside h all j k =
+      ⊎-elim
+      (λ e. subst P (sym (ap (λ (m : ℕ). getD (set xs i x) m d) e ∙ getD-set-same xs i x d inside)) h)
+      (λ (lt : j < i). subst P (sym (getD-set-other xs i j x d (λ e. omega arith))) (all j lt))
+      (eq-or-lt-of-le (le-of-suc-le-suc k))
 
   pub map-keeps : (f : A → A) → ((x : A) → P x → P (f x)) → (xs : List A) → ((j : ℕ) → P (getD xs j d)) → (j : ℕ) → P (getD (map f xs) j d)
   map-keeps f h [] all j = all j

@@ -3,7 +3,7 @@
 --     made-other, made-own, made-candidate, made-candidate-own     phase 2: the records of which a worker is maker, and the others
 --     on-grows                         a mark goes on: the others stay
 --     heldBy-grows, heldBy-other, heldBy-each     phase 4: held marks stay, and each record of the registers is held
---     falls-other, falls-candidate, falls-own     phases 5 and 6: a count that falls makes its record a candidate at 0, and no other
+--     falls-cases, falls-other, falls-candidate, falls-own     phases 5 and 6: a count that falls makes its record a candidate at 0, and no other
 --     closes-held, closes-stays, closes-candidate     the close
 -- Assumes nothing.
 use Prim.Native.Nat.{ℕ, zero, suc, _+_, _-_, _≤_}
@@ -118,7 +118,7 @@ heldBy-each (a ∷ registers) marks (suc r) h k =
 -- ---- phases 5 and 6
 
 -- a candidate mark is what it was, or it is of the record whose count falls and goes on
-falls-cases : (a b : RecordNumber) (p : Pool) → (candidateAt (falls a p) b ≡ candidateAt p b) ⊎ ((b .0 ≡ a .0) × (candidateAt (falls a p) b ≡ true))
+pub falls-cases : (a b : RecordNumber) (p : Pool) → (candidateAt (falls a p) b ≡ candidateAt p b) ⊎ ((b .0 ≡ a .0) × (candidateAt (falls a p) b ≡ true))
 unfolding falls
 falls-cases a b p = by-count (eqb (countAt p a - 1) 0)
   where

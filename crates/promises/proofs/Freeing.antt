@@ -13,7 +13,6 @@ use mathlib.Core.Logic.{⊎-elim}
 use mathlib.Core.Bool.{Bool, true, false, cond, true≢false}
 use mathlib.Core.List.{List, []}
 use native.Mathlib.Omega.{arith}
-use native.Mathlib.Nat.{eq-zero-or-pos}
 use borrow.Author.Tests.{eq-eqb}
 use lib.ListN.{length, getD, List·getD-eq-default}
 use lib.Seq.{getD-set-other}
@@ -21,7 +20,7 @@ use Rattle.rules.specs.declared.Sizes.{Sizes}
 use Rattle.rules.specs.declared.RecordNumber.{RecordNumber}
 use Rattle.rules.specs.declared.LinkNumber.{LinkNumber}
 use Rattle.rules.specs.Size.{links, linkNumber}
-use Rattle.rules.specs.Pool.{Entry, Pool, none, ofRecord, withRecord, usedAt, heldAt, candidateAt, makerAt, valueAt, changedAt, registersAt, registerAt, withUsed, withCandidate}
+use Rattle.rules.specs.Pool.{Entry, Pool, none, withRecord, usedAt, heldAt, candidateAt, makerAt, valueAt, changedAt, registersAt, registerAt, withUsed, withCandidate}
 use Rattle.rules.specs.View.{bit, times, oldIn, allLogs, lookUp, viewValue}
 use Rattle.rules.specs.Collect.{falls, emptied, emptiedFrom, closes}
 use Rattle.rules.specs.Sound.{Each, EntryInRange}
@@ -36,7 +35,7 @@ use Rattle.laws.proofs.Search.{Passed}
 use Rattle.laws.proofs.Marks.{on-some, maker-some, falls-other, closes-candidate}
 use Rattle.soundness.proofs.Core.{Core, times-most}
 use Rattle.promises.proofs.Invariant.{Used, Kept, by-held, by-maker, by-mark, by-view, NoneOrKept, Since, Named, Phased}
-use Rattle.promises.proofs.Grow.{kept-grows}
+use Rattle.promises.proofs.Grow.{free-falls, kept-grows}
 
 -- ---- unkept, unnamed
 
@@ -177,19 +176,10 @@ module _ {s : Sizes} {p : Pool} (y : RecordNumber) (some : 1 ≤ y .0) (low : y 
         values = λ m. value-emptied (Used p) m (λ h. absurd (omega arith)) (n .values m);
         logs = n .logs;
         history = n .history;
-        free-candidate =
-            λ a h.
-            ⊎-elim
-            (λ z. ap (λ (i : ℕ). ofRecord (emptied l p .records .candidate) i false) z)
-            (λ z. falls-other (valueAt p l) a p (other a h z) ∙ n .free-candidate a h)
-            (eq-zero-or-pos a.0);
+        free-candidate = free-falls p (valueAt p l) (n .values l) (n .free-candidate);
         free-maker = n .free-maker;
         free-links = λ a h free f k. value-emptied (λ b. b ≡ none) (linkNumber s a f) refl (n .free-links a h free f k);
       }
-    where
-      other : (a : RecordNumber) → usedAt p a ≡ false → 1 ≤ a .0 → valueAt p l .0 ≡ a .0 → ⊥
-      other a h some-a z =
-          true≢false (sym (n .values l (omega arith)) ∙ ap (λ (b : RecordNumber). usedAt p b) (record-same (valueAt p l) a z) ∙ h)
 
   kept-emptied : {a : RecordNumber} → Kept s p a → Kept s (emptied l p) a
   unfolding emptied falls

@@ -2,21 +2,27 @@
 --     kept-grows        the kept records stay kept where held marks, makers and changed marks grow and view values stay
 --     raised            a pool with other counts, held marks and snoop flags, and another collector's record
 --     named-raised, since-raised, phased-raised     the invariant of it, where the held marks grow
+--     free-falls        a count that falls makes no free record a candidate
 -- Assumes nothing.
 use Prim.Native.Nat.{ℕ, _≤_, _<_}
-use mathlib.Core.Path.{_≡_, refl, _∙_}
-use mathlib.Core.Bool.{Bool, true, false}
+use mathlib.Core.Path.{_≡_, refl, sym, ap, _∙_}
+use mathlib.Core.Logic.{⊎-elim}
+use mathlib.Core.Bool.{Bool, true, false, true≢false}
 use mathlib.Core.List.{List}
+use native.Mathlib.Omega.{arith}
 use lib.ListN.{getD}
 use Rattle.rules.specs.declared.Sizes.{Sizes}
 use Rattle.rules.specs.declared.RecordNumber.{RecordNumber}
 use Rattle.rules.specs.declared.LinkNumber.{LinkNumber}
 use Rattle.rules.specs.declared.Collector.{Collector}
 use Rattle.rules.specs.Size.{linkNumber}
-use Rattle.rules.specs.Pool.{Pool, ofRecord, heldAt, makerAt, valueAt, changedAt, logAt}
+use Rattle.rules.specs.Pool.{Pool, ofRecord, usedAt, heldAt, candidateAt, makerAt, valueAt, changedAt, logAt}
 use Rattle.rules.specs.View.{allLogs, viewValue}
+use Rattle.rules.specs.Collect.{falls}
+use Rattle.laws.proofs.Number.{record-same}
 use Rattle.laws.proofs.Lists.{Each-map}
-use Rattle.promises.proofs.Invariant.{Kept, by-held, by-maker, by-mark, by-view, Since, Named, Phased, snoopsIn}
+use Rattle.laws.proofs.Marks.{on-some, falls-cases}
+use Rattle.promises.proofs.Invariant.{Used, Kept, by-held, by-maker, by-mark, by-view, Since, Named, Phased, snoopsIn}
 
 pub kept-grows : {s : Sizes} {a : RecordNumber} (p q : Pool)
     → ((b : RecordNumber) → heldAt p b ≡ true → heldAt q b ≡ true)
@@ -80,3 +86,16 @@ module _ {s : Sizes} {p : Pool} (count : List ℕ) (held : List Bool) (snoop : L
           scanned = λ l w r h some. kept-raised (x .scanned l w r h some);
           marked = λ l m h e some. kept-raised (x .marked l m h e some);
         }
+
+-- ---- a count that falls
+
+-- where only used records' counts fall, no free record becomes a candidate
+pub free-falls : (p : Pool) (x : RecordNumber) → Used p x → ((a : RecordNumber) → usedAt p a ≡ false → candidateAt p a ≡ false)
+    → (a : RecordNumber) → usedAt p a ≡ false → candidateAt (falls x p) a ≡ false
+free-falls p x used free a h =
+    ⊎-elim
+    (λ same. same ∙ free a h)
+    (λ here.
+    let some : 1 ≤ a .0 = on-some (falls x p .records .candidate) a.0 (here .1) in
+    absurd (true≢false (sym (used (let e = here .0 in omega arith)) ∙ ap (λ (b : RecordNumber). usedAt p b) (record-same x a (sym (here .0))) ∙ h)))
+    (falls-cases x a p)

@@ -45,6 +45,7 @@ use Rattle.laws.proofs.Change.{frees-collector, frees-workers, stored-has, empt
 use Rattle.laws.proofs.Marks.{on-low}
 use Rattle.laws.proofs.Search.{Passed, passes-all, reclaimed-none, reclaims-cases}
 use Rattle.laws.proofs.Refusals.{LinkThere, decided-outcome, can-make, can-load, can-store}
+use Rattle.laws.proofs.Runs.{run-keeps}
 use Rattle.laws.proofs.Phases.{by-phase, snoops-cases, takes-cases, clears-cases, scans-cases, counts-cases}
 use Rattle.soundness.proofs.Core.{core-in}
 use Rattle.promises.specs.Reach.{holds, leads}
@@ -187,8 +188,8 @@ unfolding added
 stores-collector s p w q f r = stored-has s p w q f r (λ t. t .collector ≡ p .collector) (λ on t h. h) (λ off. refl) (λ on. refl)
 
 -- those that remain after an answer
-abbrev Since : (RecordNumber → Type 0) → Event → Outcome → RecordNumber → Type 0
-Since R e o x = R x × (answersFreed x e (o .answer) ≡ false)
+abbrev Unfreed : (RecordNumber → Type 0) → Event → Outcome → RecordNumber → Type 0
+Unfreed R e o x = R x × (answersFreed x e (o .answer) ≡ false)
 
 -- an answer that frees nothing takes nothing out
 narrowed : {s : Sizes} {p₀ q : Pool} {R T : RecordNumber → Type 0} {k i : ℕ} → ((x : RecordNumber) → R x → T x) → Remains s p₀ q R k i → Remains s p₀ q (λ x. R x × T x) k i
@@ -204,7 +205,7 @@ narrowed all h =
 module _ {s : Sizes} {p₀ p : Pool} {R : RecordNumber → Type 0} (reached : Reached s p) (apart : Apart s p) (h : Remaining s p₀ R p) where
   -- what an outcome leaves, if it does not close the cycle
   abbrev Goes-on : Event → Outcome → Type 0
-  Goes-on e o = (o .pool .collector .phase ≡ 0 → ⊥) → Remaining s p₀ (Since R e o) (o .pool)
+  Goes-on e o = (o .pool .collector .phase ≡ 0 → ⊥) → Remaining s p₀ (Unfreed R e o) (o .pool)
 
   -- a record that remains is not none, which a step that frees nothing answers
   not-freed : (x : RecordNumber) → R x → eqb 0 (x .0) ≡ false
@@ -310,7 +311,7 @@ freed-by-the-close s r p₀ n R lost p reached ready apart h events (closing {e 
     (loop-found s p₀ n R lost (λ b z. left-back (reached .sound) ready (end .0) (remains-in (reached .sound) h 6 (end .0)) (end .1) b z) (record { at = a; has = y })))
 freed-by-the-close s r p₀ n R lost p reached ready apart h events (going-on {e = e} {events = later} open-still rest) a y no-loop =
     or-else (answersFreed a e (outcome s p e .answer)) (freedAmong a later (answers s (outcome s p e .pool) later)) (λ f.
-    freed-by-the-close s r p₀ n (Since R e (outcome s p e)) (λ b z. lost b (z .0)) (outcome s p e .pool)
+    freed-by-the-close s r p₀ n (Unfreed R e (outcome s p e)) (λ b z. lost b (z .0)) (outcome s p e .pool)
     (reached-event s r p reached e)
     (event-ready s p (reached .sound) (reached .state) ready e)
     (apart-event s p reached e apart)
@@ -323,19 +324,16 @@ freed-by-the-close s r p₀ n R lost p reached ready apart h events (going-on {e
 
 -- ---- a run
 
-ready-run : (s : Sizes) → inRange s ≡ true → (p : Pool) → Reached s p → Ready p → (events : List Event) → Ready (after s p events)
-unfolding after
-ready-run s r p x ready [] = ready
-ready-run s r p x ready (e ∷ events) =
-    ready-run s r (outcome s p e .pool) (reached-event s r p x e) (event-ready s p (x .sound) (x .state) ready e) events
-
 pub lost-freed : (s : Sizes) → inRange s ≡ true → (before : List Event) (e : Event) (during : List Event) → Cycle s (after s (fresh s) before) e during
     → (a : RecordNumber) → Lost s (after s (fresh s) before) a → (LoopKeeps s (after s (fresh s) before) a → ⊥)
     → freedAmong a (e ∷ during) (answers s (after s (fresh s) before) (e ∷ during)) ≡ true
 lost-freed s r before e during c a lost no-loop =
     let p : Pool = after s (fresh s) before in
     let reached : Reached s p = run-holds s r before in
-    let ready : Ready p = ready-run s r (fresh s) (reached-fresh s) (fresh-ready s) before in
+    let ready : Ready p =
+    run-keeps s (λ q. Reached s q × Ready q) (λ q h d. (reached-event s r q (h .0) d, event-ready s q (h .0 .sound) (h .0 .state) (h .1) d)) (fresh s)
+    (reached-fresh s, fresh-ready s)
+    before .1 in
     freed-by-the-close s r p (reached .sound .shaped .records .used) (Lost s p) (λ b z. z) p reached ready (two-workers-share-nothing s r before)
     (lost-remaining s r p reached ready (c .opens .before))
     (e ∷ during)

@@ -11,7 +11,7 @@
 use Prim.Native.Nat.{ℕ, suc, _+_, _≤_, _<_, zero-le}
 use mathlib.Core.Path.{_≡_, refl, sym, ap, _∙_, subst}
 use mathlib.Core.Logic.{⊎-elim}
-use mathlib.Core.Bool.{Bool, true, false, cond, true≢false}
+use mathlib.Core.Bool.{Bool, true, false, cond}
 use mathlib.Core.List.{List, [], _++_}
 use native.Mathlib.Omega.{arith}
 use native.Mathlib.Nat.{eq-zero-or-pos}
@@ -23,19 +23,19 @@ use Rattle.rules.specs.declared.Sizes.{Sizes}
 use Rattle.rules.specs.declared.RecordNumber.{RecordNumber}
 use Rattle.rules.specs.declared.LinkNumber.{LinkNumber}
 use Rattle.rules.specs.Size.{links}
-use Rattle.rules.specs.Pool.{Entry, Pool, none, ofRecord, usedAt, heldAt, makerAt, valueAt, changedAt, registersAt, registerAt, snoopsAt, logAt, withHeld, withChanged, withSnoop, withLog, withHistory}
+use Rattle.rules.specs.Pool.{Entry, Pool, none, usedAt, heldAt, makerAt, valueAt, changedAt, registersAt, registerAt, snoopsAt, logAt, withHeld, withChanged, withSnoop, withLog, withHistory}
 use Rattle.rules.specs.View.{bit, times, allLogs, lookUp, viewValue}
 use Rattle.rules.specs.Collect.{madeBy, heldBy, falls, rises, counted}
 use Rattle.rules.specs.Sound.{Each}
 use Rattle.laws.proofs.Tests.{eqb-cases}
-use Rattle.laws.proofs.Number.{record-same, link-same}
-use Rattle.laws.proofs.Lists.{Each-append, Each-all, Each-flatten, Each-flatten-set}
+use Rattle.laws.proofs.Number.{link-same}
+use Rattle.laws.proofs.Lists.{set-next, Each-append, Each-all, Each-flatten, Each-flatten-set}
 use Rattle.laws.proofs.Entries.{Each-link}
 use Rattle.laws.proofs.LookUp.{times-logs, lookUp-absent, lookUp-without, view-unmarked}
 use Rattle.laws.proofs.Marks.{maker-some, made-own, made-other, made-candidate, heldBy-grows, heldBy-each, falls-other}
 use Rattle.soundness.proofs.Core.{Core, times-most}
 use Rattle.promises.proofs.Invariant.{Used, Held, Kept, by-held, NoneOrKept, Since, Named, Phased, takenBelow, scannedBelow, snoopsIn}
-use Rattle.promises.proofs.Grow.{kept-grows, since-raised, kept-raised}
+use Rattle.promises.proofs.Grow.{free-falls, kept-grows, since-raised, kept-raised}
 
 -- ---- phases 0 and 1
 
@@ -49,6 +49,16 @@ phased-none k i early none-taken flags =
       marked = λ four l h e. absurd (omega arith);
     }
 
+-- the flag of the worker at the position is written, where the flags are those of a test of the position
+flag-written : (p : Pool) (i w : ℕ) (x : Bool) (test : ℕ → ℕ → Bool) → i < length (p .workers .snoop) → test (suc i) i ≡ x
+    → ((w ≡ i → ⊥) → test i w ≡ test (suc i) w)
+    → snoopsAt p w ≡ test i w → snoopsAt (withSnoop i x p) w ≡ test (suc i) w
+flag-written p i w x test inside here there flag =
+    ⊎-elim
+    (λ e. ap (λ (v : ℕ). snoopsAt (withSnoop i x p) v) (e .0) ∙ getD-set-same (p .workers .snoop) i x false inside ∙ sym (ap (test (suc i)) (e .0) ∙ here))
+    (λ e. getD-set-other (p .workers .snoop) i w x false (e .0) ∙ flag ∙ there (e .0))
+    (eqb-cases w i)
+
 module _ {s : Sizes} {p : Pool} (i : ℕ) where
   pub phased-opened : Phased s p 0 i → Phased s p 1 0
   phased-opened x = phased-none 1 0 (omega arith) refl (λ w h. x .snoop w h ∙ sym (le-ltb w 0 zero-le))
@@ -56,12 +66,7 @@ module _ {s : Sizes} {p : Pool} (i : ℕ) where
   -- the flag of the worker at the position goes on
   pub snooped-flags : i < length (p .workers .snoop) → Phased s p 1 i → (w : ℕ) → w < s .w → snoopsAt (withSnoop i true p) w ≡ ltb w (suc i)
   snooped-flags inside x w h =
-      ⊎-elim
-      (λ e.
-      ap (λ (v : ℕ). snoopsAt (withSnoop i true p) v) (e .0) ∙ getD-set-same (p .workers .snoop) i true false inside
-      ∙ sym (ap (λ (v : ℕ). ltb v (suc i)) (e .0) ∙ lt-ltb i (suc i) (omega arith)))
-      (λ e. getD-set-other (p .workers .snoop) i w true false (e .0) ∙ x .snoop w h ∙ by-test (e .0) (ltb w i) refl)
-      (eqb-cases w i)
+      flag-written p i w true (λ j v. ltb v j) inside (lt-ltb i (suc i) (omega arith)) (λ n. by-test n (ltb w i) refl) (x .snoop w h)
     where
       by-test : (w ≡ i → ⊥) → (b : Bool) → ltb w i ≡ b → b ≡ ltb w (suc i)
       by-test n true e = let k = ltb-true w i e in sym (lt-ltb w (suc i) (omega arith))
@@ -132,14 +137,8 @@ module _ {s : Sizes} {p : Pool} {clear count : List Entry} (c : Core s p clear c
   -- the links of all logs that were taken before, and of the one that is taken now
   pub logs-taken : Phased s p 2 w → (v : ℕ) → v < suc w → Each (λ e. Held p (valueAt p (e .link))) (logAt taken v)
   unfolding madeBy
-  logs-taken x v h =
-      ⊎-elim
-      (λ e. subst (Each (λ e. Held p (valueAt p (e .link)))) (sym (ap (λ (u : ℕ). logAt emptied-log u) (e .0) ∙ getD-set-same (p .workers .log) w [] [] there)) tt)
-      (λ e. subst (Each (λ e. Held p (valueAt p (e .link)))) (sym (getD-set-other (p .workers .log) w v [] [] (e .0))) (x .logged (omega arith) (omega arith) v (let n = e .0 in omega arith)))
-      (eqb-cases v w)
-    where
-      there : w < length (p .workers .log)
-      there = omega (arith, c .shaped .workers .log)
+  logs-taken x =
+      set-next (Each (λ e. Held p (valueAt p (e .link)))) [] (p .workers .log) w [] (omega (arith, c .shaped .workers .log)) tt (x .logged (omega arith) (omega arith))
 
   pub phased-taken : (k i : ℕ) → takenBelow s k i ≤ suc w → scannedBelow s k i ≡ 0
       → ((v : ℕ) → v < s .w → true ≡ snoopsIn k i v)
@@ -247,12 +246,7 @@ module _ {s : Sizes} {p : Pool} {clear count : List Entry} (c : Core s p clear c
   -- the flag of the worker at the position goes off
   pub scanned-flags : Phased s p 4 i → (w : ℕ) → w < s .w → snoopsAt scanned w ≡ leb (suc i) w
   scanned-flags x w h =
-      ⊎-elim
-      (λ e.
-      ap (λ (v : ℕ). snoopsAt scanned v) (e .0) ∙ getD-set-same (p .workers .snoop) i false false (omega (arith, c .shaped .workers .snoop))
-      ∙ sym (ap (λ (v : ℕ). leb (suc i) v) (e .0) ∙ lt-leb (suc i) i (omega arith)))
-      (λ e. getD-set-other (p .workers .snoop) i w false false (e .0) ∙ x .snoop w h ∙ by-test (e .0) (leb i w) refl)
-      (eqb-cases w i)
+      flag-written p i w false leb (omega (arith, c .shaped .workers .snoop)) (lt-leb (suc i) i (omega arith)) (λ n. by-test n (leb i w) refl) (x .snoop w h)
     where
       by-test : (w ≡ i → ⊥) → (b : Bool) → leb i w ≡ b → b ≡ leb (suc i) w
       by-test n true e = let k = leb-true i w e in sym (le-leb (suc i) w (omega arith))
@@ -308,14 +302,10 @@ module _ (s : Sizes) (p : Pool) (e : Entry) (history : List Entry) (less : (P : 
         values = n .values;
         logs = n .logs;
         history = less (λ y. Used p (y .old)) (n .history);
-        free-candidate = λ a h. ⊎-elim (λ z. ap (λ (i : ℕ). ofRecord (counting .records .candidate) i false) z) (λ z. falls-other (e .old) a p (other a h z) ∙ n .free-candidate a h) (eq-zero-or-pos a.0);
+        free-candidate = free-falls p (e .old) used (n .free-candidate);
         free-maker = n .free-maker;
         free-links = n .free-links;
       }
-    where
-      other : (a : RecordNumber) → usedAt p a ≡ false → 1 ≤ a .0 → e .old .0 ≡ a .0 → ⊥
-      other a h some z =
-          true≢false (sym (used (omega arith)) ∙ ap (λ (b : RecordNumber). usedAt p b) (record-same (e .old) a z) ∙ h)
 
   pub phased-counted : {i : ℕ} (k j : ℕ) → 5 ≤ k → takenBelow s k j ≤ s .w → scannedBelow s k j ≤ s .w
       → ((v : ℕ) → v < s .w → false ≡ snoopsIn k j v)

@@ -14,7 +14,6 @@ use mathlib.Core.Bool.{true, false, true≢false}
 use mathlib.Core.List.{[], _∷_, _++_}
 use native.Mathlib.Omega.{arith}
 use lib.ListN.{length, getD}
-use lib.Seq.{getD-set-same, getD-set-other}
 use Rattle.rules.specs.declared.Sizes.{Sizes}
 use Rattle.rules.specs.declared.RecordNumber.{RecordNumber}
 use Rattle.rules.specs.declared.LinkNumber.{LinkNumber}
@@ -25,7 +24,7 @@ use Rattle.rules.specs.Collect.{opens, snoops, madeBy, takes, entryHere, clears
 use Rattle.rules.specs.Sound.{Each, Sound}
 use Rattle.laws.proofs.Tests.{eqb-cases}
 use Rattle.laws.proofs.Number.{record-same, link-apart}
-use Rattle.laws.proofs.Lists.{set-cases, withRecord-cases, Each-append}
+use Rattle.laws.proofs.Lists.{set-next, set-cases, withRecord-cases, Each-append}
 use Rattle.laws.proofs.Chosen.{chosen-free}
 use Rattle.laws.proofs.Change.{stored-has}
 use Rattle.laws.proofs.Marks.{on-some, made-own, made-other, heldBy-other}
@@ -150,16 +149,16 @@ module _ {s : Sizes} {p₀ p : Pool} {R : RecordNumber → Type 0} {k i : ℕ} (
         (set-cases (p .links .value) (link .0) new l.0 none)
 
     -- what a store does to one record that remains
-    record Kept (x : RecordNumber) (t : Pool) : Type 0 where
+    record Untouched (x : RecordNumber) (t : Pool) : Type 0 where
       pub used : usedAt t x ≡ usedAt p x
       pub maker : makerAt t x ≡ makerAt p x
       pub held : heldAt t x ≡ false
       pub logs : (v : ℕ) → v < takenBelow s k i → Each (Foreign s x) (logAt t v)
 
-    stored-kept : (x : RecordNumber) → R x → Kept x (stores s w q f r p .pool)
+    stored-kept : (x : RecordNumber) → R x → Untouched x (stores s w q f r p .pool)
     unfolding added
     stored-kept x y =
-        stored-has s p w q f r (Kept x)
+        stored-has s p w q f r (Untouched x)
         (λ on t z. record {
           used = z .used;
           maker = z .maker;
@@ -308,11 +307,7 @@ module _ {s : Sizes} {p₀ p : Pool} {R : RecordNumber → Type 0} (sound : Soun
           (eqb-cases (makerAt p x) (here + 1))
 
       logs : (x : RecordNumber) → R x → (w : ℕ) → w < suc here → Each (Foreign s x) (logAt q w)
-      logs x y w z =
-          ⊎-elim
-          (λ c. subst (Each (Foreign s x)) (sym (ap (λ (u : ℕ). logAt r u) (c .0) ∙ getD-set-same (p .workers .log) here [] [] there)) tt)
-          (λ c. subst (Each (Foreign s x)) (sym (getD-set-other (p .workers .log) here w [] [] (c .0))) (h .left x y .logs w (let n = c .0 in omega arith)))
-          (eqb-cases w here)
+      logs x y = set-next (Each (Foreign s x)) [] (p .workers .log) here [] there tt (h .left x y .logs)
 
       arrives : (k i : ℕ) → takenBelow s k i ≤ suc here → Remaining s p₀ R (moved k i q)
       arrives k i below =

@@ -1,5 +1,5 @@
 -- Counts that fall and rise.
---     count-falls, count-rises      the count of each record, where one falls or rises
+--     count-written, count-falls, count-rises      the count of each record, where one falls or rises
 --     shaped-falls, shaped-rises    the tables keep their lengths
 --     core-counted                  phase 5 keeps the core: one link moves from its old value to its view value, one count down and one up
 --     core-emptied-history          then the history may be emptied
@@ -7,7 +7,7 @@
 -- Assumes nothing.
 use Prim.Native.Nat.{ℕ, suc, _+_, _-_, _≤_, _<_, zero-le}
 use mathlib.Core.Path.{_≡_, refl, sym, ap, _∙_}
-use mathlib.Core.Logic.{⊎-elim}
+use mathlib.Core.Logic.{_⊎_, inl, inr, ⊎-elim}
 use mathlib.Core.Bool.{Bool, true, false, cond}
 use mathlib.Core.List.{List, []}
 use native.Mathlib.Omega.{arith}
@@ -19,7 +19,7 @@ use Rattle.rules.specs.declared.Sizes.{Sizes}
 use Rattle.rules.specs.declared.RecordNumber.{RecordNumber}
 use Rattle.rules.specs.declared.LinkNumber.{LinkNumber}
 use Rattle.rules.specs.Size.{links}
-use Rattle.rules.specs.Pool.{Entry, Pool, none, withRecord, countAt, valueAt, changedAt, withHistory}
+use Rattle.rules.specs.Pool.{Entry, Pool, none, ofRecord, withRecord, countAt, valueAt, changedAt, withHistory}
 use Rattle.rules.specs.View.{bit, times, oldIn, allLogs, lookUp, viewValue}
 use Rattle.rules.specs.Collect.{falls, rises, counted, emptied}
 use Rattle.rules.specs.Sound.{EntryInRange, ShapedRecords}
@@ -35,33 +35,28 @@ use Rattle.soundness.proofs.Clear.{from-here}
 -- ---- one count
 
 module _ (s : Sizes) (p : Pool) (h : ShapedRecords s (p .records)) (x : RecordNumber) (low : x .0 ≤ s .n) where
+  -- the count of x is written, and no other
+  count-written : (n : ℕ) (a : RecordNumber) → 1 ≤ a .0 → let after : ℕ = ofRecord (withRecord (p .records .count) (x .0) n) (a .0) 0 in
+      ((hit x a ≡ 1) × (after ≡ n) × (countAt p x ≡ countAt p a)) ⊎ ((hit x a ≡ 0) × (after ≡ countAt p a))
+  count-written n a k = ⊎-elim (λ e. inl (same (e .0) (e .1))) (λ e. inr (ap bit (e .1), ofRecord-other (p .records .count) x.0 a.0 n 0 (e .0))) (eqb-cases x.0 a.0)
+    where
+      same : x .0 ≡ a .0 → eqb (x .0) (a .0) ≡ true → (hit x a ≡ 1) × (ofRecord (withRecord (p .records .count) (x .0) n) (a .0) 0 ≡ n) × (countAt p x ≡ countAt p a)
+      same e on = (
+        ap bit on,
+        ap (λ (i : ℕ). ofRecord (withRecord (p .records .count) (x .0) n) i 0) (sym e) ∙ ofRecord-same (p .records .count) x.0 n 0 (omega arith) (omega (arith, h .count)),
+        ap (λ (y : RecordNumber). countAt p y) (record-same x a e),
+      )
+
   -- the count of x falls by one, if it is not 0, and no other
   pub count-falls : (a : RecordNumber) → 1 ≤ a .0 → hit x a ≤ countAt p a → countAt (falls x p) a + hit x a ≡ countAt p a
   unfolding falls
-  count-falls a k some = ⊎-elim (λ e. same (e .0) (e .1)) (λ e. other (e .0) (e .1)) (eqb-cases x.0 a.0)
-    where
-      same : x .0 ≡ a .0 → eqb (x .0) (a .0) ≡ true → countAt (falls x p) a + hit x a ≡ countAt p a
-      same e on =
-          let there : countAt (falls x p) x ≡ countAt p x - 1 = ofRecord-same (p .records .count) x.0 (countAt p x - 1) 0 (omega arith) (omega (arith, h .count)) in
-          let to : x ≡ a = record-same x a e in
-          omega (arith, there, ap (λ (y : RecordNumber). countAt (falls x p) y) to, ap (λ (y : RecordNumber). countAt p y) to, ap bit on)
-
-      other : (x .0 ≡ a .0 → ⊥) → eqb (x .0) (a .0) ≡ false → countAt (falls x p) a + hit x a ≡ countAt p a
-      other n off = omega (arith, ofRecord-other (p .records .count) x.0 a.0 (countAt p x - 1) 0 n, ap bit off)
+  count-falls a k some =
+      ⊎-elim (λ e. omega (arith, e .0, e .1, e .2)) (λ e. omega (arith, e .0, e .1)) (count-written (countAt p x - 1) a k)
 
   -- the count of x rises by one, and no other
   pub count-rises : (a : RecordNumber) → 1 ≤ a .0 → countAt (rises x p) a ≡ countAt p a + hit x a
   unfolding rises
-  count-rises a k = ⊎-elim (λ e. same (e .0) (e .1)) (λ e. other (e .0) (e .1)) (eqb-cases x.0 a.0)
-    where
-      same : x .0 ≡ a .0 → eqb (x .0) (a .0) ≡ true → countAt (rises x p) a ≡ countAt p a + hit x a
-      same e on =
-          let there : countAt (rises x p) x ≡ countAt p x + 1 = ofRecord-same (p .records .count) x.0 (countAt p x + 1) 0 (omega arith) (omega (arith, h .count)) in
-          let to : x ≡ a = record-same x a e in
-          omega (arith, there, ap (λ (y : RecordNumber). countAt (rises x p) y) to, ap (λ (y : RecordNumber). countAt p y) to, ap bit on)
-
-      other : (x .0 ≡ a .0 → ⊥) → eqb (x .0) (a .0) ≡ false → countAt (rises x p) a ≡ countAt p a + hit x a
-      other n off = omega (arith, ofRecord-other (p .records .count) x.0 a.0 (countAt p x + 1) 0 n, ap bit off)
+  count-rises a k = ⊎-elim (λ e. omega (arith, e .0, e .1, e .2)) (λ e. omega (arith, e .0, e .1)) (count-written (countAt p x + 1) a k)
 
   pub shaped-falls : ShapedRecords s (falls x p .records)
   unfolding falls
