@@ -1,8 +1,9 @@
 -- Every row of the table of starred runs holds: one test, which antt computes over the whole table, and the law that turns it into the claim for
 -- each row. Assumes nothing.
-use mathlib.Core.Bool.{Bool, true, false, _&&_}
+use mathlib.Core.Bool.{Bool, true, _&&_}
 use mathlib.Core.List.{List, [], _∷_, flatten, zipWith}
 use lib.Dec.{T}
+use lib.Ieee.Fits.{and-l, and-r}
 use Rattle.rules.specs.Size.{inRange, links, linkNumber}
 use Rattle.rules.specs.Pool.{fresh}
 use Rattle.rules.specs.View.{oldIn, lookUp, viewValue}
@@ -23,14 +24,6 @@ abbrev every : List Row → Bool
 every [] = true
 every (r ∷ rows) = computes r && every rows
 
-and-left : (a b : Bool) → T (a && b) → T a
-and-left true b t = tt
-and-left false b t = t
-
-and-right : (a b : Bool) → T (a && b) → T b
-and-right true b t = t
-and-right false b t = absurd t
-
 -- the test over the whole table
 computed : T (every runs)
 unfolding computes doneFrom runs
@@ -38,7 +31,7 @@ computed = tt
 
 each : (rows : List Row) → T (every rows) → Each (λ r. T (computes r)) rows
 each [] t = tt
-each (r ∷ rows) t = (and-left (computes r) (every rows) t, each rows (and-right (computes r) (every rows) t))
+each (r ∷ rows) t = (and-l (computes r) (every rows) t, each rows (and-r (computes r) (every rows) t))
 
 -- every row of the table holds
 pub every-run-holds : Each (λ r. T (holds r)) runs

@@ -83,6 +83,7 @@ impl<'a> Check<'a> {
         self.used_are_made_less_freed(&moment)?;
         self.remember_last_seen(&moment);
         self.opening(&moment);
+        self.remember_freed(&moment);
         self.cycle_is_short(&moment)?;
         self.lost_is_freed(&moment)?;
         self.counts_at_the_close(&moment)
@@ -132,6 +133,12 @@ impl<'a> Check<'a> {
         });
     }
 
+    fn remember_freed(&mut self, moment: &Moment) {
+        if let Some(cycle) = &mut self.cycle {
+            cycle.freed.extend(moment.freed());
+        }
+    }
+
     /// A cycle closes within 3W + 2S + N + 2 collector steps, the opening and the closing one
     /// included.
     fn cycle_is_short(&mut self, moment: &Moment) -> Result<(), String> {
@@ -139,7 +146,6 @@ impl<'a> Check<'a> {
         let most = 3 * usize::from(sizes.w) + 2 * sizes.s() + usize::from(sizes.n) + 2;
         if let (Some(cycle), Event::Collect) = (&mut self.cycle, moment.event) {
             cycle.collector_steps += 1;
-            cycle.freed.extend(moment.freed());
             return hold(cycle.collector_steps <= most, || {
                 format!("the cycle did not close within 3W + 2S + N + 2 = {most} collector steps")
             });
