@@ -1,10 +1,11 @@
 -- Laws on lists that speak of no pool.
 --     flatten-set                             a list of lists joined, taken apart at one of them that is written
 --     length-flatten                          one of them is no longer than all joined
---     Each-append, Each-left, Each-right, Each-at, Each-all, Each-flatten, Each-flatten-set, Each-map, Each-map₂     what holds of each element
+--     Each-append, Each-left, Each-right, Each-at, Each-all, Each-flatten, Each-flatten-set, Each-map, Each-map₂, Each-set, Each-places     what holds of each element
 --     set-cases                               a table of which one place is written
 --     ofRecord-same, ofRecord-other, withRecord-cases, length-withRecord     a table of the records, with another thing for one record
---     length-zipWith, getD-zipWith            a table made of two
+--     map-set, map-at                         a table mapped
+--     length-zipWith, zipWith-at, getD-zipWith     a table made of two
 --     set-keeps, set-keeps-below, set-next, map-keeps, withRecord-keeps, map-ofRecord-keeps     what holds at every place of a table
 -- Assumes nothing.
 use Prim.Native.Nat.{ℕ, zero, suc, _≤_, _<_, zero-le, suc-le-suc}
@@ -81,6 +82,17 @@ pub Each-map₂ : {A : Type 0} {P Q R : A → Type 0} (xs : List A) → ((x : A)
 Each-map₂ [] f h k = tt
 Each-map₂ (x ∷ xs) f h k = (f x (h .0) (k .0), Each-map₂ xs f (h .1) (k .1))
 
+-- where an element is written that has it
+pub Each-set : {A : Type 0} (P : A → Type 0) (xs : List A) (i : ℕ) (x : A) → Each P xs → P x → Each P (set xs i x)
+Each-set P [] i x h k = tt
+Each-set P (y ∷ xs) zero x h k = (k, h .1)
+Each-set P (y ∷ xs) (suc i) x h k = (h .0, Each-set P xs i x (h .1) k)
+
+-- what holds at every place of a list holds of each element
+pub Each-places : {A : Type 0} (P : A → Type 0) (d : A) (xs : List A) → ((i : ℕ) → i < length xs → P (getD xs i d)) → Each P xs
+Each-places P d [] h = tt
+Each-places P d (x ∷ xs) h = (h zero (suc-le-suc zero-le), Each-places P d xs (λ i k. h (suc i) (suc-le-suc k)))
+
 -- ---- one place of a table
 
 module _ {A : Type 0} where
@@ -123,7 +135,25 @@ length-zipWith f [] ys h = refl
 length-zipWith f (x ∷ xs) [] h = sym h
 length-zipWith f (x ∷ xs) (y ∷ ys) h = ap suc (length-zipWith f xs ys (omega arith))
 
--- what stands at a place of a table made of two, and of one mapped
+pub map-set : {A B : Type 0} (f : A → B) (xs : List A) (i : ℕ) (x : A) → map f (set xs i x) ≡ set (map f xs) i (f x)
+map-set f [] i x = refl
+map-set f (y ∷ xs) zero x = refl
+map-set f (y ∷ xs) (suc i) x = ap (λ t. f y ∷ t) (map-set f xs i x)
+
+pub map-at : {A B : Type 0} (f : A → B) (xs : List A) (i : ℕ) (a : A) (b : B) → i < length xs → getD (map f xs) i b ≡ f (getD xs i a)
+map-at f [] i a b h = absurd (not-suc-le-zero h)
+map-at f (x ∷ xs) zero a b h = refl
+map-at f (x ∷ xs) (suc i) a b h = map-at f xs i a b (le-of-suc-le-suc h)
+
+pub zipWith-at : {A B C : Type 0} (f : A → B → C) (xs : List A) (ys : List B) (i : ℕ) (a : A) (b : B) (c : C) → i < length xs → i < length ys
+    → getD (zipWith f xs ys) i c ≡ f (getD xs i a) (getD ys i b)
+unfolding zipWith
+zipWith-at f [] ys i a b c h k = absurd (not-suc-le-zero h)
+zipWith-at f (x ∷ xs) [] i a b c h k = absurd (not-suc-le-zero k)
+zipWith-at f (x ∷ xs) (y ∷ ys) zero a b c h k = refl
+zipWith-at f (x ∷ xs) (y ∷ ys) (suc i) a b c h k = zipWith-at f xs ys i a b c (le-of-suc-le-suc h) (le-of-suc-le-suc k)
+
+-- the same past the end of both
 pub getD-zipWith : {A B C : Type 0} (f : A → B → C) (xs : List A) (ys : List B) (i : ℕ) (a : A) (b : B) → length xs ≡ length ys
     → getD (zipWith f xs ys) i (f a b) ≡ f (getD xs i a) (getD ys i b)
 unfolding zipWith

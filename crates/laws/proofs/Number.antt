@@ -4,12 +4,14 @@
 --     link-inside               a link of a record has a number below S
 --     link-split                every link is of a record
 --     link-apart                links of two records have two numbers
+--     links-most, link-low      how large S and a link's number are at most
+--     block-inside, block-end   a place of a block, and its end, in a table of blocks
 -- Assumes nothing.
 use Prim.Native.Nat.{ℕ, suc, _+_, _-_, _*_, _/_, _%_, _≤_, _<_}
 use mathlib.Core.Path.{_≡_, sym, ap, _∙_}
 use mathlib.Core.Bool.{Bool, true, _&&_}
 use native.Mathlib.Omega.{arith}
-use native.Mathlib.Nat.{suc-mul, mul-le-mul-right, mul-add-div-right, div-eq-of-lt, div-lt-iff-lt-mul, div-add-mod', mod-lt}
+use native.Mathlib.Nat.{suc-mul, mul-le-mul-left, mul-le-mul-right, mul-add-div-right, div-eq-of-lt, div-lt-iff-lt-mul, div-add-mod', mod-lt}
 use borrow.Author.Tests.{leb-true}
 use lib.Dec.{leb}
 use Rattle.rules.specs.declared.Sizes.{Sizes}
@@ -89,3 +91,23 @@ link-apart s a b f g ha hb hf hg e =
   where
     div-of : (i f k : ℕ) → f < k → (i * k + f) / k ≡ i
     div-of i f k h = mul-add-div-right (omega arith) i f ∙ ap (λ (n : ℕ). i + n) (div-eq-of-lt h) ∙ omega arith
+
+-- ---- how large they are
+
+pub links-most : (s : Sizes) → inRange s ≡ true → links s ≤ 8192
+unfolding links
+links-most s h =
+    let b = bounds s h in
+    omega (arith, mul-le-mul-left (s .n) (b .k-most), b .n-most)
+
+pub link-low : (s : Sizes) (a : RecordNumber) (f : ℕ) → inRange s ≡ true → 1 ≤ a .0 → a .0 ≤ s .n → f < s .k → (a .0 - 1) * s .k + f < 8192
+unfolding linkNumber
+link-low s a f h some low k = omega (arith, links-most s h, link-inside s a f some low k)
+
+-- ---- tables of blocks
+
+pub block-inside : (w n size i : ℕ) → w < n → i < size → w * size + i < n * size
+block-inside w n size i h k = omega (arith, suc-mul w size, mul-le-mul-right size h)
+
+pub block-end : (w n size : ℕ) → w < n → w * size + size ≤ n * size
+block-end w n size h = omega (arith, suc-mul w size, mul-le-mul-right size h)

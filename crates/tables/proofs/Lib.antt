@@ -1,0 +1,13 @@
+-- The laws of the tables: what callers use in place of a definition's text.
+--     Blocks        a table in blocks of one size
+--     Entered       a list of entries in its room
+--     Marks         marks and flags as numbers
+--     RoundTrip     on tables of the right shape, the tables of a pool and the pool of tables undo each other
+--     Stand         what stands at a place of a table, in the pool
+--     Written       one thing of a pool changed, and the tables after it
+pub mod Blocks
+pub mod Entered
+pub mod Marks
+pub mod RoundTrip
+pub mod Stand
+pub mod Written

@@ -1,0 +1,20 @@
+-- `tables::place::link_count` meets its contract: S is at most 8,192. Assumes nothing.
+use native.Mathlib.Omega.{arith}
+use Rattle.laws.proofs.Number.{links-most}
+use Rattle.rules.specs.Size.{links}
+use mathlib.Core.Path.{refl}
+use Rattle.tables.proofs.place.link_count.Statement.{statement}
+use Rattle.tables.proofs.place.link_count.Tie as tie
+use Rattle.tables.proofs.place.link_count.Reads as reads
+use Rattle.tables.proofs.place.link_count.Lts as lts
+
+mul-result : tie.Need-mul-result
+unfolding links
+mul-result c = omega (arith, links-most (c .before .args .s) (c .before .pre))
+
+returns : tie.Need-returns
+unfolding links
+returns c = (refl, links-most (c .before .args .s) (c .before .pre))
+
+pub link-count-spec : {M : Type 1} → statement M
+link-count-spec = tie.close (tie.spec mul-result returns)

@@ -1,0 +1,56 @@
+// Where a record, a link, a register and a log stand in their tables (decision 2 of docs/DECISIONS.md). Inner.
+use rules::LinkNumber;
+use rules::RecordNumber;
+use rules::Sizes;
+ghost use mathlib.Core.Path.{_≡_};
+ghost use mathlib.Core.Bool.{true};
+ghost use Prim.Native.Nat.{_+_, _-_, _*_, _≤_, _<_};
+ghost use Rattle.rules.specs.Size.{inRange, links, linkNumber};
+ghost use Rattle.tables.specs.Lie.{room};
+
+// A number of a table, as an index is.
+pub fn wide(x: u16) -> usize
+    ensures { λ y. ⌜ y ≡ x ⌝ }
+{
+    x as usize
+}
+
+// "record a at place a - 1"
+pub fn record_place(a: RecordNumber) -> usize
+    requires { ⌜ 1 ≤ a .0 ⌝ }
+    ensures { λ x. ⌜ x ≡ a .0 - 1 ⌝ }
+{
+    wide(a.0) - 1
+}
+
+// "There are S = N x K links."
+pub fn link_count(s: Sizes) -> u16
+    requires { ⌜ inRange s ≡ true ⌝ }
+    ensures { λ x. ⌜ (x ≡ links s) × (x ≤ 8192) ⌝ }
+{
+    s.n * s.k
+}
+
+// "Link f of record a has the number (a-1) x K + f.": the one way from a record number to a link number.
+pub fn link_number(s: Sizes, a: RecordNumber, f: u16) -> LinkNumber
+    requires { ⌜ (inRange s ≡ true) × (1 ≤ a .0) × (a .0 ≤ s .n) × (f < s .k) ⌝ }
+    ensures { λ l. ⌜ (l ≡ linkNumber s a f) × (l .0 < links s) ⌝ }
+{
+    LinkNumber((a.0 - 1) * s.k + f)
+}
+
+// "register r of worker w at place w x R + r"
+pub fn register_place(s: Sizes, w: u16, r: u16) -> usize
+    requires { ⌜ (inRange s ≡ true) × (w < s .w) × (r < s .r) ⌝ }
+    ensures { λ x. ⌜ (x ≡ w * s .r + r) × (x < s .w * s .r) ⌝ }
+{
+    (w as usize) * (s.r as usize) + (r as usize)
+}
+
+// "entry i of worker w at w x 2S + 2i": where the log of worker w begins.
+pub fn log_place(s: Sizes, w: u16) -> usize
+    requires { ⌜ (inRange s ≡ true) × (w < s .w) ⌝ }
+    ensures { λ x. ⌜ (x ≡ w * room s) × (x + room s ≤ s .w * room s) ⌝ }
+{
+    (w as usize) * (wide(link_count(s)) * 2)
+}
