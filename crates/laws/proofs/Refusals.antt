@@ -1,11 +1,12 @@
 -- What is known of an event that is not refused, and of one that is.
 --     Unrefused               no test is true
 --     decided-outcome, decided     what holds of a refusal, and of what is done where no test is true, holds of the outcome
+--     decide-first, decide-next, decide-none     the outcome itself, test by test
 --     RegisterThere, LinkThere     the worker and its register, the link of the record that a register holds are there
 --     can-make .. can-store   what is known where none of the tests of an event is true
 -- Assumes nothing.
 use Prim.Native.Nat.{ℕ, _≤_, _<_}
-use mathlib.Core.Path.{_≡_, refl}
+use mathlib.Core.Path.{_≡_, refl, ap}
 use mathlib.Core.Bool.{Bool, true, false, cond, _&&_}
 use mathlib.Core.List.{List, [], _∷_}
 use native.Mathlib.Omega.{arith}
@@ -40,6 +41,19 @@ decided-outcome P p h (t ∷ tests) done f = by-test (t .when) (λ e. decided-ou
 -- what holds of the pool before, and of the pool after where no test is true, holds of the pool after
 pub decided : (P : Pool → Type 0) (p : Pool) → P p → (tests : List Test) (done : Outcome) → (Unrefused tests → P (done .pool)) → P (decide p tests done .pool)
 decided P p h tests done f = decided-outcome (λ o. P (o .pool)) p (λ why. h) tests done f
+
+-- the outcome, test by test
+pub decide-first : (p : Pool) (t : Test) (tests : List Test) (done : Outcome) → t .when ≡ true → decide p (t ∷ tests) done ≡ refused (t .why) p
+unfolding decide
+decide-first p t tests done e = ap (λ b. cond b (refused (t .why) p) (decide p tests done)) e
+
+pub decide-next : (p : Pool) (t : Test) (tests : List Test) (done : Outcome) → t .when ≡ false → decide p (t ∷ tests) done ≡ decide p tests done
+unfolding decide
+decide-next p t tests done e = ap (λ b. cond b (refused (t .why) p) (decide p tests done)) e
+
+pub decide-none : (p : Pool) (done : Outcome) → decide p [] done ≡ done
+unfolding decide
+decide-none p done = refl
 
 -- ---- what is known of an event that is not refused
 

@@ -1,5 +1,5 @@
 -- "Collector steps" of document 01.
---     phaseAfter, onward             how a step moves the collector's record on
+--     phaseAfter, advanced, onward   how a step moves the collector's record on
 --     opens, snoops, takes, clears, scans, counts, reclaims     the step of each phase, from phase 0 to 6
 --     madeBy, heldBy, falls, rises   what the steps of phases 2, 4 and 5 do to the records
 --     entryHere                      the history entry at the position
@@ -15,6 +15,7 @@ use lib.ListN.{length, getD}
 use Rattle.rules.specs.declared.Sizes.{Sizes}
 use Rattle.rules.specs.declared.RecordNumber.{RecordNumber}
 use Rattle.rules.specs.declared.LinkNumber.{LinkNumber}
+use Rattle.rules.specs.declared.Collector.{Collector}
 use Rattle.rules.specs.declared.Answer.the-variants.{Stepped, Freed}
 use Rattle.rules.specs.Size.{linkNumber}
 use Rattle.rules.specs.Pool.{Entry, Pool, none, withRecord, usedAt, countAt, heldAt, candidateAt, valueAt, changedAt, registersAt, logAt}
@@ -37,14 +38,14 @@ abbrev pub lastOf : ℕ → Pool → Bool
 lastOf n p = leb n (suc (p .collector .position))
 
 -- "The phase changes within the step that did the last position, and the position returns to 0."
+abbrev pub advanced : ℕ → List Entry → Collector → Collector
+advanced n history c =
+    cond (leb n (suc (c .position)))
+    (record { phase = phaseAfter (c .phase) history; position = 0; closed = c .closed })
+    (record { phase = c .phase; position = suc (c .position); closed = c .closed })
+
 unfoldable pub onward : ℕ → Pool → Pool
-onward n p =
-    let c = p .collector in
-    withCollector
-    (cond (lastOf n p)
-    (record { phase = phaseAfter (c .phase) (p .history); position = 0; closed = c .closed })
-    (record { phase = c .phase; position = suc (c .position); closed = c .closed }))
-    p
+onward n p = withCollector (advanced n (p .history) (p .collector)) p
 
 -- "the answer is the record freed, otherwise 0"
 abbrev pub stepped : Pool → Outcome

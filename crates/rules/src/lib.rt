@@ -6,6 +6,7 @@
 //     Refusal        why a call refuses, a case for each number but 0 of "Numbers a call may answer"
 //     Answer         what a call answers, a case for each thing that can happen
 //     Collector      the collector's own record
+//     Answered       an answer, together with the collector's record after it
 // What they mean stands in specs/; the numbers that an answer stands for are in specs/Reply.antt.
 
 // "N records 1..1024, K links in each 1..8, W workers 1..8, R registers per worker 1..16."
@@ -85,4 +86,10 @@ pub struct Collector {
     pub phase: u16,
     pub position: u16,
     pub closed: u16,
+}
+
+// What a call on a pool answers: the event's answer, and the collector's record after it, which lives in no table.
+pub struct Answered {
+    pub answer: Answer,
+    pub collector: Collector,
 }

@@ -5,9 +5,13 @@
 --     RoundTrip     on tables of the right shape, the tables of a pool and the pool of tables undo each other
 --     Stand         what stands at a place of a table, in the pool
 --     Written       one thing of a pool changed, and the tables after it
+--     Counted       a record's number and mark, by its place
+--     Done          an event on known tables, from what it does to the pool
 pub mod Blocks
 pub mod Entered
 pub mod Marks
 pub mod RoundTrip
 pub mod Stand
 pub mod Written
+pub mod Counted
+pub mod Done

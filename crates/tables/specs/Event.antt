@@ -2,13 +2,17 @@
 --     Called     what a call answers and leaves
 --     written    an outcome of the rules, written out
 --     eventOn    an event on tables
---     SomePool, Answers     what an inner function that is lent some of the tables asks of them, and what it does
+--     SomePool, Answers     what a worker event that is lent some of the tables asks of them, and what it does
+--     InPhase, Steps        the same of a collector step
 -- Assumes nothing.
+use Prim.Native.Nat.{ℕ}
 use mathlib.Core.Path.{_≡_}
 use Rattle.rules.specs.declared.Sizes.{Sizes}
 use Rattle.rules.specs.declared.Event.{Event}
+use Rattle.rules.specs.declared.Event.the-variants.{Collect}
 use Rattle.rules.specs.declared.Answer.{Answer}
 use Rattle.rules.specs.declared.Collector.{Collector}
+use Rattle.rules.specs.declared.Answered.{Answered}
 use Rattle.rules.specs.Reply.{Outcome}
 use Rattle.rules.specs.Outcome.{outcome}
 use Rattle.tables.specs.Tables.{Tables}
@@ -27,7 +31,7 @@ written s o = record { answer = o .answer; collector = o .pool .collector; table
 unfoldable pub eventOn : Sizes → Tables → Collector → Event → Called
 eventOn s t c e = written s (outcome s (poolOf s t c) e)
 
--- ---- inner functions, which are lent some of the tables: `lent` puts these into the others
+-- ---- inner functions, which are lent some of the tables: `at` puts these among the others
 
 -- the tables at hand are tables of a sound pool
 abbrev pub SomePool : Sizes → (Tables → Tables) → Type 0
@@ -37,3 +41,13 @@ SomePool s at = (t : Tables) × (c : Collector) × Known s (at t) c
 abbrev pub Answers : Sizes → Event → (Tables → Tables) → Answer → (Tables → Tables) → Type 0
 Answers s e before answer after =
     (t : Tables) (c : Collector) → Known s (before t) c → eventOn s (before t) c e ≡ record { answer = answer; collector = c; tables = after t }
+
+-- the tables at hand are tables of a sound pool in this phase
+abbrev pub InPhase : ℕ → Sizes → (Tables → Tables) → Collector → Type 0
+InPhase k s at c = (t : Tables) × Known s (at t) c × (c .phase ≡ k)
+
+-- of every sound pool in this phase in whose tables those at hand lie: the collect event gives this answer, leaves the collector's record and the tables at
+-- hand so, and nothing else of the pool changes
+abbrev pub Steps : ℕ → Sizes → (Tables → Tables) → Collector → Answered → (Tables → Tables) → Type 0
+Steps k s before c x after =
+    (t : Tables) → Known s (before t) c → c .phase ≡ k → eventOn s (before t) c Collect ≡ record { answer = x .answer; collector = x .collector; tables = after t }

@@ -9,8 +9,6 @@ use borrow.Author.Needs.{needs}
 use borrow.Author.Fill.{fill-none, fill-more}
 use Rattle.tables.proofs.list.clear.Statement.{statement}
 use Rattle.tables.proofs.list.clear.Tie as tie
-use Rattle.tables.proofs.list.clear.Reads as reads
-use Rattle.tables.proofs.list.clear.Lts as lts
 
 abbrev Inv-loop : tie.InvT-loop
 Inv-loop xs₀ i₀ xs i = (i ≤ length xs₀) × (length xs ≡ length xs₀) × (xs ≡ replicate i 0 ++ drop i xs₀)

@@ -9,8 +9,6 @@ use lib.Seq.{paste, paste-zero, paste-suc}
 use borrow.Author.Needs.{needs}
 use Rattle.tables.proofs.list.copy.Statement.{statement}
 use Rattle.tables.proofs.list.copy.Tie as tie
-use Rattle.tables.proofs.list.copy.Reads as reads
-use Rattle.tables.proofs.list.copy.Lts as lts
 
 abbrev Inv-loop : tie.InvT-loop
 Inv-loop to₀ at from i₀ to i = (i ≤ length from) × (length to ≡ length to₀) × (to ≡ paste to₀ at from i)

@@ -5,8 +5,6 @@ use Rattle.rules.specs.Size.{links}
 use mathlib.Core.Path.{refl}
 use Rattle.tables.proofs.place.link_count.Statement.{statement}
 use Rattle.tables.proofs.place.link_count.Tie as tie
-use Rattle.tables.proofs.place.link_count.Reads as reads
-use Rattle.tables.proofs.place.link_count.Lts as lts
 
 mul-result : tie.Need-mul-result
 unfolding links

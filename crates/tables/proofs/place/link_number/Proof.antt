@@ -6,8 +6,6 @@ use mathlib.Core.Path.{refl}
 use borrow.Author.Needs.{needs}
 use Rattle.tables.proofs.place.link_number.Statement.{statement}
 use Rattle.tables.proofs.place.link_number.Tie as tie
-use Rattle.tables.proofs.place.link_number.Reads as reads
-use Rattle.tables.proofs.place.link_number.Lts as lts
 
 sub-t4 : tie.Need-sub-t4
 sub-t4 c = search needs

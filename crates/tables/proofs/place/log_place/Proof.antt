@@ -8,10 +8,6 @@ use Rattle.tables.specs.Lie.{room}
 use borrow.Author.Needs.{needs}
 use Rattle.tables.proofs.place.log_place.Statement.{statement}
 use Rattle.tables.proofs.place.log_place.Tie as tie
-use Rattle.tables.proofs.place.log_place.Reads as reads
-use Rattle.tables.proofs.place.log_place.Lts as lts
-use Rattle.tables.proofs.place.link_count.Reads as link-count-reads
-use Rattle.tables.proofs.place.wide.Reads as wide-reads
 
 link-count-requires : tie.Need-link-count-requires
 link-count-requires c κs = search needs

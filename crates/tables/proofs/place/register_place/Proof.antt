@@ -6,8 +6,6 @@ use native.Mathlib.Nat.{mul-le-mul-left}
 use borrow.Author.Needs.{needs}
 use Rattle.tables.proofs.place.register_place.Statement.{statement}
 use Rattle.tables.proofs.place.register_place.Tie as tie
-use Rattle.tables.proofs.place.register_place.Reads as reads
-use Rattle.tables.proofs.place.register_place.Lts as lts
 
 cast-result : tie.Need-cast-result
 cast-result c = search needs
