@@ -1,12 +1,13 @@
 -- What is known of an event that is not refused, and of one that is.
 --     Unrefused               no test is true
 --     decided-outcome, decided     what holds of a refusal, and of what is done where no test is true, holds of the outcome
---     decide-first, decide-next, decide-none     the outcome itself, test by test
+--     decide-first, decide-next, decide-all     the outcome itself, test by test
 --     RegisterThere, LinkThere     the worker and its register, the link of the record that a register holds are there
+--     register-there, move-there, load-there, store-there     the test of an event that they are
 --     can-make .. can-store   what is known where none of the tests of an event is true
 -- Assumes nothing.
 use Prim.Native.Nat.{ℕ, _≤_, _<_}
-use mathlib.Core.Path.{_≡_, refl, ap}
+use mathlib.Core.Path.{_≡_, refl, ap, _∙_}
 use mathlib.Core.Bool.{Bool, true, false, cond, _&&_}
 use mathlib.Core.List.{List, [], _∷_}
 use native.Mathlib.Omega.{arith}
@@ -51,9 +52,10 @@ pub decide-next : (p : Pool) (t : Test) (tests : List Test) (done : Outcome) →
 unfolding decide
 decide-next p t tests done e = ap (λ b. cond b (refused (t .why) p) (decide p tests done)) e
 
-pub decide-none : (p : Pool) (done : Outcome) → decide p [] done ≡ done
+pub decide-all : (p : Pool) (tests : List Test) (done : Outcome) → Unrefused tests → decide p tests done ≡ done
 unfolding decide
-decide-none p done = refl
+decide-all p [] done h = refl
+decide-all p (t ∷ tests) done h = decide-next p t tests done (h .0) ∙ decide-all p tests done (h .1)
 
 -- ---- what is known of an event that is not refused
 
@@ -65,49 +67,57 @@ pub record LinkThere (s : Sizes) (p : Pool) (w q f : ℕ) : Type 0 where
   pub link : f < s .k
   pub holds : 1 ≤ registerAt p w q .0
 
+pub register-there : (s : Sizes) (w r : ℕ) → (hasWorker s w && hasRegister s r) ≡ true → RegisterThere s w r
+register-there s w r h =
+    record {
+      worker = ltb-true w (s .w) (and-left (hasWorker s w) (hasRegister s r) h);
+      register = ltb-true r (s .r) (and-right (hasWorker s w) (hasRegister s r) h);
+    }
+
+pub move-there : (s : Sizes) (w r q : ℕ) → (hasWorker s w && hasRegister s r && hasRegister s q) ≡ true → RegisterThere s w r × (q < s .r)
+move-there s w r q all =
+    (register-there s w r (and-left _ (hasRegister s q) all), ltb-true q (s .r) (and-right (hasWorker s w && hasRegister s r) _ all))
+
+pub load-there : (s : Sizes) (w r q f : ℕ) → (hasWorker s w && hasRegister s r && hasRegister s q && hasLink s f) ≡ true → RegisterThere s w r × (q < s .r) × (f < s .k)
+load-there s w r q f all =
+    let both = move-there s w r q (and-left _ (hasLink s f) all) in
+    (both .0, both .1, ltb-true f (s .k) (and-right (hasWorker s w && hasRegister s r && hasRegister s q) _ all))
+
+pub store-there : (s : Sizes) (w q f r : ℕ) → (hasWorker s w && hasRegister s q && hasLink s f && hasRegister s r) ≡ true → RegisterThere s w q × (f < s .k) × (r < s .r)
+store-there s w q f r all =
+    let both : (hasWorker s w && hasRegister s q && hasLink s f) ≡ true = and-left _ (hasRegister s r) all in (
+      register-there s w q (and-left _ (hasLink s f) both),
+      ltb-true f (s .k) (and-right (hasWorker s w && hasRegister s q) _ both),
+      ltb-true r (s .r) (and-right (hasWorker s w && hasRegister s q && hasLink s f) _ all),
+    )
+
 module _ (s : Sizes) (p : Pool) where
-  register-there : (w r : ℕ) → (hasWorker s w && hasRegister s r) ≡ true → RegisterThere s w r
-  register-there w r h =
-      record {
-        worker = ltb-true w (s .w) (and-left (hasWorker s w) (hasRegister s r) h);
-        register = ltb-true r (s .r) (and-right (hasWorker s w) (hasRegister s r) h);
-      }
+  -- "holds none" is not so
+  holds : (w q : ℕ) → (registerAt p w q .0 ≡ 0 → ⊥) → 1 ≤ registerAt p w q .0
+  holds w q full = omega arith
 
   pub can-make : (w r : ℕ) → Unrefused (refusals s p (Make w r)) → RegisterThere s w r × (1 ≤ chosen p .0)
   unfolding refusals noneFree
   can-make w r t =
       let full = eqb-false (chosen p .0) 0 (t .1 .0) in
-      (register-there w r (not-false _ (t .0)), omega arith)
+      (register-there s w r (not-false _ (t .0)), omega arith)
 
   pub can-move : (w r q : ℕ) → Unrefused (refusals s p (Move w r q)) → RegisterThere s w r × (q < s .r)
   unfolding refusals
-  can-move w r q t =
-      let all : (hasWorker s w && hasRegister s r && hasRegister s q) ≡ true = not-false _ (t .0) in
-      (register-there w r (and-left _ (hasRegister s q) all), ltb-true q (s .r) (and-right (hasWorker s w && hasRegister s r) _ all))
+  can-move w r q t = move-there s w r q (not-false _ (t .0))
 
   pub can-drop : (w r : ℕ) → Unrefused (refusals s p (Drop w r)) → RegisterThere s w r
   unfolding refusals
-  can-drop w r t = register-there w r (not-false _ (t .0))
-
-  link-there : (w q f : ℕ) → hasLink s f ≡ true → (registerAt p w q .0 ≡ 0 → ⊥) → LinkThere s p w q f
-  link-there w q f h full = record { link = ltb-true f (s .k) h; holds = omega arith }
+  can-drop w r t = register-there s w r (not-false _ (t .0))
 
   pub can-load : (w r q f : ℕ) → Unrefused (refusals s p (Load w r q f)) → RegisterThere s w r × (q < s .r) × LinkThere s p w q f
   unfolding refusals
   can-load w r q f t =
-      let all : (hasWorker s w && hasRegister s r && hasRegister s q && hasLink s f) ≡ true = not-false _ (t .0) in
-      let both : (hasWorker s w && hasRegister s r && hasRegister s q) ≡ true = and-left _ (hasLink s f) all in (
-        register-there w r (and-left _ (hasRegister s q) both),
-        ltb-true q (s .r) (and-right (hasWorker s w && hasRegister s r) _ both),
-        link-there w q f (and-right (hasWorker s w && hasRegister s r && hasRegister s q) _ all) (eqb-false (registerAt p w q .0) 0 (t .1 .0)),
-      )
+      let there = load-there s w r q f (not-false _ (t .0)) in
+      (there .0, there .1, record { link = there .2; holds = holds w q (eqb-false (registerAt p w q .0) 0 (t .1 .0)) })
 
   pub can-store : (w q f r : ℕ) → Unrefused (refusals s p (Store w q f r)) → RegisterThere s w q × (r < s .r) × LinkThere s p w q f
   unfolding refusals
   can-store w q f r t =
-      let all : (hasWorker s w && hasRegister s q && hasLink s f && hasRegister s r) ≡ true = not-false _ (t .0) in
-      let both : (hasWorker s w && hasRegister s q && hasLink s f) ≡ true = and-left _ (hasRegister s r) all in (
-        register-there w q (and-left _ (hasLink s f) both),
-        ltb-true r (s .r) (and-right (hasWorker s w && hasRegister s q && hasLink s f) _ all),
-        link-there w q f (and-right (hasWorker s w && hasRegister s q) _ both) (eqb-false (registerAt p w q .0) 0 (t .1 .0)),
-      )
+      let there = store-there s w q f r (not-false _ (t .0)) in
+      (there .0, there .2, record { link = there .1; holds = holds w q (eqb-false (registerAt p w q .0) 0 (t .1 .0)) })

@@ -19,9 +19,9 @@ use Rattle.rules.specs.declared.Sizes.{Sizes}
 use Rattle.rules.specs.declared.RecordNumber.{RecordNumber}
 use Rattle.rules.specs.declared.Collector.{Collector}
 use Rattle.rules.specs.Size.{inRange, links}
-use Rattle.rules.specs.Pool.{Entry, Pool}
+use Rattle.rules.specs.Pool.{Entry, Workers, Pool}
 use Rattle.rules.specs.View.{bit}
-use Rattle.rules.specs.Sound.{Each, Sound, Shaped}
+use Rattle.rules.specs.Sound.{Each, Sound, ShapedWorkers, Shaped}
 use Rattle.tables.specs.Tables.{Tables}
 use Rattle.tables.specs.Lie.{marks, bits, recordNumbers, numbers, cut, entries, laid, room, poolOf, tablesOf}
 use Rattle.tables.specs.Known.{Exact, Marked, block, Padded, SoundTables, Known}
@@ -49,6 +49,9 @@ logs-back most [] [] h = refl
 logs-back most [] (n ∷ rest) h = refl
 logs-back most (l ∷ logs) rest h = λ j. entries-laid most l (h .0) j ∷ logs-back most logs rest (h .1) j
 
+pub rows-sized : (s : Sizes) (ws : Workers) → ShapedWorkers s ws → Each (λ l. length l ≡ s .r) (ws .registers)
+rows-sized s ws shaped = Each-places (λ l. length l ≡ s .r) [] (ws .registers) (λ w k. shaped .each w (omega (arith, shaped .registers)))
+
 pub sized-rows : (size : ℕ) (rows : List (List RecordNumber)) → Each (λ l. length l ≡ size) rows → Sized size (map numbers rows)
 sized-rows size [] h = tt
 sized-rows size (row ∷ rows) h = (length-map row (λ a. a .0) ∙ h .0, sized-rows size rows (h .1))
@@ -58,10 +61,6 @@ sized-logs most [] = tt
 sized-logs most (l ∷ logs) = (length-laid most l, sized-logs most logs)
 
 module _ (s : Sizes) (p : Pool) (shaped : Shaped s p) (logs : (w : ℕ) → length (getD (p .workers .log) w []) ≤ links s) (history : length (p .history) ≤ links s) where
-  pub rows-sized : Each (λ l. length l ≡ s .r) (p .workers .registers)
-  rows-sized =
-      Each-places (λ l. length l ≡ s .r) [] (p .workers .registers) (λ w k. shaped .workers .each w (omega (arith, shaped .workers .registers)))
-
   logs-low : Each (λ l. length l ≤ links s) (p .workers .log)
   logs-low = Each-places (λ l. length l ≤ links s) [] (p .workers .log) (λ w k. logs w)
 
@@ -70,7 +69,7 @@ module _ (s : Sizes) (p : Pool) (shaped : Shaped s p) (logs : (w : ℕ) → leng
   unfolding tablesOf
   rows-cut =
       ap (λ (n : ℕ). cut n (s .r) (flatten (map numbers (p .workers .registers)))) (sym (length-map (p .workers .registers) numbers ∙ shaped .workers .registers))
-      ∙ cut-joined (s .r) (map numbers (p .workers .registers)) (sized-rows (s .r) (p .workers .registers) rows-sized)
+      ∙ cut-joined (s .r) (map numbers (p .workers .registers)) (sized-rows (s .r) (p .workers .registers) (rows-sized s (p .workers) (shaped .workers)))
 
   pub logs-cut : cut (s .w) (room s) (tablesOf s p .logs) ≡ map (laid (links s)) (p .workers .log)
   unfolding tablesOf
@@ -216,7 +215,7 @@ module _ (s : Sizes) (range : inRange s ≡ true) (p : Pool) (sound : Sound s p)
         changed = length-map (p .links .changed) bit ∙ shaped .links .changed;
         registers =
             length-joined (s .r) (map numbers (p .workers .registers))
-            (sized-rows (s .r) (p .workers .registers) (rows-sized s p shaped (sound .log-length) (sound .history-length)))
+            (sized-rows (s .r) (p .workers .registers) (rows-sized s (p .workers) (shaped .workers)))
             ∙ ap (λ (n : ℕ). n * s .r) (length-map (p .workers .registers) numbers ∙ shaped .workers .registers);
         snoops = length-map (p .workers .snoop) bit ∙ shaped .workers .snoop;
         logs =

@@ -1,5 +1,5 @@
 -- One thing of a pool changed, and the tables of the pool after it.
---     number-set, mark-set        what is written for a record, in a table of numbers and in one of marks
+--     number-set, mark-record, mark-set     what is written for a record, in a table of numbers and in one of marks
 --     register-written            a register takes a record number
 --     value-written, changed-written, snoop-written     a link's value, its mark, a worker's flag
 --     log-added                   a log gets an entry more
@@ -18,7 +18,7 @@ use Rattle.rules.specs.declared.LinkNumber.{LinkNumber}
 use Rattle.rules.specs.Size.{links}
 use Rattle.rules.specs.Pool.{Entry, Pool, withRecord, registersAt, logAt, withValue, withChanged, withRegister, withSnoop, withLog}
 use Rattle.rules.specs.View.{bit}
-use Rattle.rules.specs.Sound.{Each, Sound}
+use Rattle.rules.specs.Sound.{Each, ShapedWorkers}
 use Rattle.tables.specs.Tables.{Tables, putValues, putChanged, putRegisters, putSnoops, putLogs, putLengths}
 use Rattle.tables.specs.Lie.{marks, bits, numbers, laid, room, tablesOf}
 use Rattle.tables.proofs.Blocks.{Sized, joined-set}
@@ -33,31 +33,16 @@ pub number-set : (xs : List ℕ) (i x : ℕ) → 1 ≤ i → withRecord xs i x �
 number-set xs zero x h = absurd (not-suc-le-zero h)
 number-set xs (suc i) x h = ap (λ (k : ℕ). set xs k x) (let e : i ≡ suc i - 1 = omega arith in e)
 
+pub mark-record : (xs : List ℕ) (i : ℕ) (b : Bool) → Each (λ x. x ≤ 1) xs → bits (withRecord (marks xs) i b) ≡ withRecord xs i (bit b)
+mark-record xs zero b low = bits-marks xs low
+mark-record xs (suc i) b low = map-set bit (marks xs) i b ∙ ap (λ (ys : List ℕ). set ys i (bit b)) (bits-marks xs low)
+
 pub mark-set : (xs : List ℕ) (i : ℕ) (b : Bool) → 1 ≤ i → Each (λ x. x ≤ 1) xs → bits (withRecord (marks xs) i b) ≡ set xs (i - 1) (bit b)
-mark-set xs zero b h low = absurd (not-suc-le-zero h)
-mark-set xs (suc i) b h low =
-    map-set bit (marks xs) i b
-    ∙ ap (λ (ys : List ℕ). set ys i (bit b)) (bits-marks xs low)
-    ∙ ap (λ (k : ℕ). set xs k (bit b)) (let e : i ≡ suc i - 1 = omega arith in e)
+mark-set xs i b h low = mark-record xs i b low ∙ number-set xs i (bit b) h
 
 -- ---- one thing of a pool
 
-module _ (s : Sizes) (p : Pool) (sound : Sound s p) where
-  pub register-written : (w r : ℕ) (x : RecordNumber) → w < s .w → r < s .r
-      → tablesOf s (withRegister w r x p) ≡ putRegisters (set (tablesOf s p .registers) (w * s .r + r) (x .0)) (tablesOf s p)
-  unfolding tablesOf
-  register-written w r x k l =
-      let rows = p .workers .registers in
-      let inside : w < length rows = omega (arith, sound .shaped .workers .registers) in
-      ap (λ (table : List ℕ). putRegisters table (tablesOf s p))
-      (ap flatten
-      (map-set numbers rows w (set (registersAt p w) r x)
-      ∙ ap (set (map numbers rows) w) (map-set (λ a. a .0) (registersAt p w) r x ∙ ap (λ (row : List ℕ). set row r (x .0)) (sym (map-at numbers rows w [] [] inside))))
-      ∙ joined-set (s .r) (map numbers rows) w r (x .0)
-      (sized-rows (s .r) rows (rows-sized s p (sound .shaped) (sound .log-length) (sound .history-length)))
-      (omega (arith, length-map rows numbers))
-      l)
-
+module _ (s : Sizes) (p : Pool) where
   pub value-written : (l : LinkNumber) (x : RecordNumber) → tablesOf s (withValue l x p) ≡ putValues (set (tablesOf s p .values) (l .0) (x .0)) (tablesOf s p)
   unfolding tablesOf
   value-written l x = ap (λ (table : List ℕ). putValues table (tablesOf s p)) (map-set (λ a. a .0) (p .links .value) (l .0) x)
@@ -69,6 +54,24 @@ module _ (s : Sizes) (p : Pool) (sound : Sound s p) where
   pub snoop-written : (w : ℕ) (b : Bool) → tablesOf s (withSnoop w b p) ≡ putSnoops (set (tablesOf s p .snoops) w (bit b)) (tablesOf s p)
   unfolding tablesOf
   snoop-written w b = ap (λ (table : List ℕ). putSnoops table (tablesOf s p)) (map-set bit (p .workers .snoop) w b)
+
+-- ---- one thing of a worker, where every list has its length
+
+module _ (s : Sizes) (p : Pool) (shaped : ShapedWorkers s (p .workers)) where
+  pub register-written : (w r : ℕ) (x : RecordNumber) → w < s .w → r < s .r
+      → tablesOf s (withRegister w r x p) ≡ putRegisters (set (tablesOf s p .registers) (w * s .r + r) (x .0)) (tablesOf s p)
+  unfolding tablesOf
+  register-written w r x k l =
+      let rows = p .workers .registers in
+      let inside : w < length rows = omega (arith, shaped .registers) in
+      ap (λ (table : List ℕ). putRegisters table (tablesOf s p))
+      (ap flatten
+      (map-set numbers rows w (set (registersAt p w) r x)
+      ∙ ap (set (map numbers rows) w) (map-set (λ a. a .0) (registersAt p w) r x ∙ ap (λ (row : List ℕ). set row r (x .0)) (sym (map-at numbers rows w [] [] inside))))
+      ∙ joined-set (s .r) (map numbers rows) w r (x .0)
+      (sized-rows (s .r) rows (rows-sized s (p .workers) shaped))
+      (omega (arith, length-map rows numbers))
+      l)
 
   -- ---- the logs
 
@@ -103,7 +106,7 @@ module _ (s : Sizes) (p : Pool) (sound : Sound s p) where
   log-added w e k free =
       let logs = p .workers .log in
       let n : ℕ = length (logAt p w) in
-      let inside : w < length logs = omega (arith, sound .shaped .workers .log) in
+      let inside : w < length logs = omega (arith, shaped .log) in
       let inside-rooms : w < length rooms = omega (arith, length-map logs (laid (links s))) in
       let at : n * 2 < room s = omega arith in
       let next : n * 2 + 1 < room s = omega arith in

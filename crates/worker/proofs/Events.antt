@@ -1,0 +1,122 @@
+-- What make, move, drop and load do to known tables, where nothing refuses them.
+--     register-takes, register-low     a register takes a record number, and holds one in range
+--     chosen-inside       the record that a make takes is one of the pool's
+--     made, moved, dropped, loaded     the events
+-- Assumes nothing.
+use Prim.Native.Nat.{ℕ, _+_, _-_, _*_, _≤_, _<_}
+use mathlib.Core.Path.{_≡_, refl, sym, ap, _∙_}
+use mathlib.Core.Bool.{Bool, true, false, not, _&&_}
+use mathlib.Core.List.{List}
+use native.Mathlib.Omega.{arith}
+use borrow.Author.Tests.{ne-eqb}
+use lib.Dec.{eqb}
+use lib.ListN.{getD, set, length-map}
+use Rattle.rules.specs.declared.Sizes.{Sizes}
+use Rattle.rules.specs.declared.RecordNumber.{RecordNumber}
+use Rattle.rules.specs.declared.LinkNumber.{LinkNumber}
+use Rattle.rules.specs.declared.Event.the-variants.{Make, Move, Drop, Load}
+use Rattle.rules.specs.declared.Answer.the-variants.{Made, Moved, Dropped, Loaded}
+use Rattle.rules.specs.declared.Collector.{Collector}
+use Rattle.rules.specs.Size.{linkNumber}
+use Rattle.rules.specs.Pool.{Pool, none, withRecord, valueAt, registerAt, withUsed, withMaker, withRegister}
+use Rattle.rules.specs.Worker.{chosen, makes, moves, drops, loads}
+use Rattle.rules.specs.Outcome.{hasWorker, hasRegister, hasLink, noneFree, refusals, does}
+use Rattle.laws.proofs.Chosen.{chosen-low}
+use Rattle.laws.proofs.Refusals.{register-there, move-there, load-there}
+use Rattle.tables.specs.Tables.{Tables, putUsed, putMakers, putRegisters}
+use Rattle.tables.specs.Lie.{isOn, recordNumber, bits, poolOf, tablesOf}
+use Rattle.tables.specs.Known.{Known}
+use Rattle.tables.specs.Event.{eventOn}
+use Rattle.tables.proofs.RoundTrip.{known-back}
+use Rattle.tables.proofs.Stand.{value-stands, register-stands}
+use Rattle.tables.proofs.Written.{number-set, mark-set, register-written}
+use Rattle.tables.proofs.Done.{done-on}
+use Rattle.worker.proofs.Refused.{unrefused}
+
+module _ {s : Sizes} {t : Tables} {c : Collector} (known : Known s t c) where
+  abbrev p : Pool
+  p = poolOf s t c
+
+  -- the place of a register
+  abbrev place : ℕ → ℕ → ℕ
+  place w r = w * s .r + r
+
+  pub register-takes : (w r : ℕ) (x : RecordNumber) → w < s .w → r < s .r → tablesOf s (withRegister w r x p) ≡ putRegisters (set (t .registers) (place w r) (x .0)) t
+  register-takes w r x k l =
+      register-written s p (known .tables .sound .shaped .workers) w r x k l
+      ∙ ap (λ (u : Tables). putRegisters (set (u .registers) (place w r) (x .0)) u) (known-back known)
+
+  -- "record numbers in registers .. 0..N"
+  pub register-low : (w r : ℕ) → w < s .w → r < s .r → getD (t .registers) (place w r) 0 ≤ s .n
+  register-low w r k l = omega (arith, known .tables .sound .registers w r, ap (λ (a : RecordNumber). a .0) (register-stands s t c w r k l))
+
+  pub dropped : (w r : ℕ) → (hasWorker s w && hasRegister s r) ≡ true
+      → eventOn s t c (Drop w r) ≡ record { answer = Dropped; collector = c; tables = putRegisters (set (t .registers) (place w r) 0) t }
+  unfolding refusals does drops poolOf
+  dropped w r here =
+      let at = register-there s w r here in
+      done-on known (Drop w r) (drops w r p) _ (unrefused known (Drop w r) (ap not here, tt)) (register-takes w r none (at .worker) (at .register))
+
+  pub moved : (w r q : ℕ) → (hasWorker s w && hasRegister s r && hasRegister s q) ≡ true
+      → let a : ℕ = getD (t .registers) (place w q) 0 in
+      eventOn s t c (Move w r q) ≡ record { answer = Moved (recordNumber a); collector = c; tables = putRegisters (set (t .registers) (place w r) a) t }
+  unfolding refusals does moves poolOf
+  moved w r q here =
+      let at = move-there s w r q here in
+      done-on known (Move w r q) (moves w r q p) _ (unrefused known (Move w r q) (ap not here, tt)) (register-takes w r (registerAt p w q) (at .0 .worker) (at .0 .register))
+      ∙ (λ j.
+      let a : RecordNumber = register-stands s t c w q (at .0 .worker) (at .1) j in
+      record { answer = Moved a; collector = c; tables = putRegisters (set (t .registers) (place w r) (a .0)) t })
+
+  pub chosen-inside : chosen p .0 ≤ s .n
+  unfolding poolOf
+  chosen-inside = omega (arith, chosen-low p, length-map (t .used) isOn, known .exact .used)
+
+  pub made : (w r : ℕ) → (hasWorker s w && hasRegister s r) ≡ true → 1 ≤ chosen p .0
+      → let a : ℕ = chosen p .0 in
+      eventOn s t c (Make w r)
+      ≡ record {
+        answer = Made (chosen p);
+        collector = c;
+        tables = putRegisters (set (t .registers) (place w r) a) (putMakers (set (t .makers) (a - 1) (w + 1)) (putUsed (set (t .used) (a - 1) 1) t));
+      }
+  unfolding refusals noneFree does makes poolOf tablesOf
+  made w r here some =
+      let at = register-there s w r here in
+      let a : ℕ = chosen p .0 in
+      let used : List Bool = withRecord (p .records .used) a true in
+      let makers : List ℕ = withRecord (p .records .maker) a (w + 1) in
+      let q : Pool = withMaker makers (withUsed used p) in
+      done-on known (Make w r) (makes w r p) _
+      (unrefused known (Make w r) (ap not here, (ne-eqb a 0 (λ e. omega arith), tt)))
+      (register-written s q (known .tables .sound .shaped .workers) w r (chosen p) (at .worker) (at .register)
+      ∙ ap
+      (λ (u : Tables). putRegisters (set (u .registers) (place w r) a) (putMakers makers (putUsed (bits used) u)))
+      (known-back known)
+      ∙ (λ j.
+      putRegisters (set (t .registers) (place w r) a)
+      (putMakers (number-set (t .makers) a (w + 1) some j) (putUsed (mark-set (t .used) a true some (known .tables .marked .used) j) t))))
+
+  -- the link of the record in a register
+  abbrev linkOf : ℕ → ℕ → ℕ → LinkNumber
+  linkOf w q f = linkNumber s (recordNumber (getD (t .registers) (place w q) 0)) f
+
+  -- the record in a register that is there
+  pub base-stands : (w r q f : ℕ) → (hasWorker s w && hasRegister s r && hasRegister s q && hasLink s f) ≡ true → registerAt p w q ≡ recordNumber (getD (t .registers) (place w q) 0)
+  base-stands w r q f here = let there = load-there s w r q f here in register-stands s t c w q (there .0 .worker) (there .1)
+
+  pub loaded : (w r q f : ℕ) → (hasWorker s w && hasRegister s r && hasRegister s q && hasLink s f) ≡ true
+      → (getD (t .registers) (place w q) 0 ≡ 0 → ⊥)
+      → let a : ℕ = getD (t .values) (linkOf w q f .0) 0 in
+      eventOn s t c (Load w r q f) ≡ record { answer = Loaded (recordNumber a); collector = c; tables = putRegisters (set (t .registers) (place w r) a) t }
+  unfolding refusals does loads poolOf
+  loaded w r q f here some =
+      let base = base-stands w r q f here in
+      let unempty : eqb (registerAt p w q .0) 0 ≡ false = ne-eqb (registerAt p w q .0) 0 (λ e. some (ap (λ (a : RecordNumber). a .0) (sym base) ∙ e)) in
+      let at = load-there s w r q f here in
+      let value : valueAt p (linkNumber s (registerAt p w q) f) ≡ recordNumber (getD (t .values) (linkOf w q f .0) 0) =
+      ap (λ (a : RecordNumber). valueAt p (linkNumber s a f)) base ∙ value-stands s t c (linkOf w q f) in
+      done-on known (Load w r q f) (loads s w r q f p) _
+      (unrefused known (Load w r q f) (ap not here, (unempty, tt)))
+      (register-takes w r (valueAt p (linkNumber s (registerAt p w q) f)) (at .0 .worker) (at .0 .register))
+      ∙ (λ j. record { answer = Loaded (value j); collector = c; tables = putRegisters (set (t .registers) (place w r) (value j .0)) t })

@@ -1,0 +1,188 @@
+-- What a store does to known tables, where nothing refuses it.
+--     logged-on      "(link, its value) is added to w's log and the mark goes on", where the mark is off
+--     stored         the event
+-- Assumes nothing.
+use Prim.Native.Nat.{ℕ, _+_, _*_, _≤_, _<_}
+use mathlib.Core.Path.{_≡_, refl, sym, ap, _∙_, subst}
+use mathlib.Core.Bool.{Bool, true, false, cond, not, _&&_}
+use mathlib.Core.List.{List, [], _∷_, _++_}
+use native.Mathlib.Omega.{arith}
+use borrow.Author.Tests.{ne-eqb, leb-false}
+use lib.Dec.{eqb, leb}
+use lib.ListN.{length, getD, set}
+use Rattle.rules.specs.declared.Sizes.{Sizes}
+use Rattle.rules.specs.declared.RecordNumber.{RecordNumber}
+use Rattle.rules.specs.declared.LinkNumber.{LinkNumber}
+use Rattle.rules.specs.declared.Event.the-variants.{Store}
+use Rattle.rules.specs.declared.Answer.the-variants.{Stored}
+use Rattle.rules.specs.declared.Collector.{Collector}
+use Rattle.rules.specs.Size.{links, linkNumber}
+use Rattle.rules.specs.Pool.{Entry, Pool, withRecord, valueAt, changedAt, registerAt, snoopsAt, logAt, withHeld, withValue, withLog}
+use Rattle.rules.specs.Worker.{added, logged, snooped, stores}
+use Rattle.rules.specs.Outcome.{hasWorker, hasRegister, hasLink, logFull, refusals, does}
+use Rattle.laws.proofs.Change.{logged-keeps, stored-has}
+use Rattle.laws.proofs.Refusals.{store-there}
+use Rattle.tables.specs.Tables.{Tables, putHeld, putValues, putChanged, putLogs, putLengths}
+use Rattle.tables.specs.Lie.{isOn, bits, recordNumber, room, poolOf, tablesOf}
+use Rattle.tables.specs.Known.{Known}
+use Rattle.tables.specs.Event.{eventOn}
+use Rattle.tables.proofs.RoundTrip.{known-back}
+use Rattle.tables.proofs.Stand.{value-stands, changed-stands, register-stands, snoop-stands, log-length}
+use Rattle.tables.proofs.Marks.{bits-marks}
+use Rattle.tables.proofs.Written.{mark-record, value-written, changed-written, log-added}
+use Rattle.tables.proofs.Done.{done-on}
+use Rattle.worker.specs.Lent.{nextEntry, loggedOn, heldAfter}
+use Rattle.worker.proofs.Refused.{unrefused}
+
+-- ---- an entry more
+
+module _ {s : Sizes} {t : Tables} {c : Collector} (known : Known s t c) where
+  abbrev p : Pool
+  p = poolOf s t c
+
+  added-on : (w : ℕ) (l : LinkNumber) → w < s .w → getD (t .lengths) w 0 < links s
+      → tablesOf s (added w l p)
+      ≡ putChanged (set (t .changed) (l .0) 1)
+      (putLogs (set (set (t .logs) (nextEntry s w t) (l .0)) (nextEntry s w t + 1) (valueAt p l .0)) (putLengths (set (t .lengths) w (getD (t .lengths) w 0 + 1)) t))
+  unfolding added
+  added-on w l k free =
+      let e : Entry = record { link = l; old = valueAt p l } in
+      let n : length (logAt p w) ≡ getD (t .lengths) w 0 = log-length s t c known w k in
+      let after : Tables → ℕ → Tables =
+      (λ u m.
+      putChanged (set (u .changed) (l .0) 1)
+      (putLogs (set (set (u .logs) (w * room s + m * 2) (l .0)) (w * room s + m * 2 + 1) (valueAt p l .0)) (putLengths (set (u .lengths) w (m + 1)) u))) in
+      changed-written s (withLog w (logAt p w ++ (e ∷ [])) p) l true
+      ∙ ap (λ (u : Tables). putChanged (set (u .changed) (l .0) 1) u) (log-added s p (known .tables .sound .shaped .workers) w e k (omega (arith, n)))
+      ∙ ap (λ (u : Tables). after u (length (logAt p w))) (known-back known)
+      ∙ ap (after t) n
+
+  pub logged-on : (w : ℕ) (l : LinkNumber) → w < s .w → (isOn (getD (t .changed) (l .0) 0) ≡ false → getD (t .lengths) w 0 < links s)
+      → tablesOf s (logged w l p) ≡ loggedOn s w l (valueAt p l) t
+  unfolding logged loggedOn
+  logged-on w l k free = by-mark (isOn (getD (t .changed) (l .0) 0)) refl
+    where
+      more : Tables
+      more =
+          putChanged (set (t .changed) (l .0) 1)
+          (putLogs (set (set (t .logs) (nextEntry s w t) (l .0)) (nextEntry s w t + 1) (valueAt p l .0)) (putLengths (set (t .lengths) w (getD (t .lengths) w 0 + 1)) t))
+
+      at-mark : (b : Bool) → isOn (getD (t .changed) (l .0) 0) ≡ b → tablesOf s (logged w l p) ≡ tablesOf s (cond (not b) (added w l p) p)
+      at-mark b e = ap (λ (x : Bool). tablesOf s (cond (not x) (added w l p) p)) (changed-stands s t c l ∙ e)
+
+      by-mark : (b : Bool) → isOn (getD (t .changed) (l .0) 0) ≡ b → tablesOf s (logged w l p) ≡ loggedOn s w l (valueAt p l) t
+      by-mark true on = at-mark true on ∙ known-back known ∙ ap (λ (x : Bool). cond x t more) (sym on)
+      by-mark false off = at-mark false off ∙ added-on w l k (free off) ∙ ap (λ (x : Bool). cond x t more) (sym off)
+
+  -- ---- the event
+
+  logged-values : (w : ℕ) (l : LinkNumber) (old : RecordNumber) → loggedOn s w l old t .values ≡ t .values
+  unfolding loggedOn
+  logged-values w l old = by-mark (isOn (getD (t .changed) (l .0) 0))
+    where
+      more : Tables
+      more =
+          putChanged (set (t .changed) (l .0) 1)
+          (putLogs (set (set (t .logs) (nextEntry s w t) (l .0)) (nextEntry s w t + 1) (old .0)) (putLengths (set (t .lengths) w (getD (t .lengths) w 0 + 1)) t))
+
+      by-mark : (b : Bool) → cond b t more .values ≡ t .values
+      by-mark true = refl
+      by-mark false = refl
+
+  valued-on : (w : ℕ) (l : LinkNumber) (a : RecordNumber) → w < s .w → (isOn (getD (t .changed) (l .0) 0) ≡ false → getD (t .lengths) w 0 < links s)
+      → tablesOf s (withValue l a (logged w l p)) ≡ putValues (set (t .values) (l .0) (a .0)) (loggedOn s w l (valueAt p l) t)
+  valued-on w l a k free =
+      value-written s (logged w l p) l a
+      ∙ ap (λ (u : Tables). putValues (set (u .values) (l .0) (a .0)) u) (logged-on w l k free)
+      ∙ ap (λ (xs : List ℕ). putValues (set xs (l .0) (a .0)) (loggedOn s w l (valueAt p l) t)) (logged-values w l (valueAt p l))
+
+  -- the held marks, where w snoops and where it does not
+  held-on : (w : ℕ) (a : RecordNumber) → bits (cond (snoopsAt p w) (withRecord (p .records .held) (a .0) true) (p .records .held)) ≡ heldAfter w a (t .snoops) (t .held)
+  unfolding heldAfter poolOf
+  held-on w a = ap (λ (x : Bool). bits (cond x (withRecord (p .records .held) (a .0) true) (p .records .held))) (snoop-stands s t c w) ∙ by-flag (isOn (getD (t .snoops) w 0))
+    where
+      by-flag : (b : Bool) → bits (cond b (withRecord (p .records .held) (a .0) true) (p .records .held)) ≡ cond b (withRecord (t .held) (a .0) 1) (t .held)
+      by-flag true = mark-record (t .held) (a .0) true (known .tables .marked .held)
+      by-flag false = bits-marks (t .held) (known .tables .marked .held)
+
+  snooped-on : (w : ℕ) (a : RecordNumber) (q : Pool) → tablesOf s (snooped w a q) ≡ putHeld (bits (cond (snoopsAt q w) (withRecord (q .records .held) (a .0) true) (q .records .held))) (tablesOf s q)
+  unfolding snooped tablesOf
+  snooped-on w a q = by-flag (snoopsAt q w)
+    where
+      by-flag : (b : Bool) → tablesOf s (cond b (withHeld (withRecord (q .records .held) (a .0) true) q) q) ≡ putHeld (bits (cond b (withRecord (q .records .held) (a .0) true) (q .records .held))) (tablesOf s q)
+      by-flag true = refl
+      by-flag false = refl
+
+  -- all three together
+  store-tables : (w : ℕ) (l : LinkNumber) (a : RecordNumber) → w < s .w → (isOn (getD (t .changed) (l .0) 0) ≡ false → getD (t .lengths) w 0 < links s)
+      → tablesOf s (snooped w a (withValue l a (logged w l p)))
+      ≡ putHeld (heldAfter w a (t .snoops) (t .held)) (putValues (set (t .values) (l .0) (a .0)) (loggedOn s w l (recordNumber (getD (t .values) (l .0) 0)) t))
+  unfolding added
+  store-tables w l a k free =
+      let held : logged w l p .records .held ≡ p .records .held = logged-keeps (λ q. q .records .held) w l p refl in
+      let snoop : logged w l p .workers .snoop ≡ p .workers .snoop = logged-keeps (λ q. q .workers .snoop) w l p refl in
+      snooped-on w a (withValue l a (logged w l p))
+      ∙ (λ j.
+      putHeld
+      (((λ i. bits (cond (getD (snoop i) w false) (withRecord (held i) (a .0) true) (held i))) ∙ held-on w a) j)
+      ((valued-on w l a k free ∙ ap (λ (old : RecordNumber). putValues (set (t .values) (l .0) (a .0)) (loggedOn s w l old t)) (value-stands s t c l)) j))
+
+  store-collector : (w q f r : ℕ) → stores s w q f r p .pool .collector ≡ c
+  unfolding added poolOf
+  store-collector w q f r = stored-has s p w q f r (λ x. x .collector ≡ c) (λ on x h. h) (λ off. refl) (λ on. refl)
+
+  -- the place of a register, and the link of the record that it holds
+  abbrev place : ℕ → ℕ → ℕ
+  place w r = w * s .r + r
+
+  abbrev pub linkThrough : ℕ → ℕ → ℕ → LinkNumber
+  linkThrough w q f = linkNumber s (recordNumber (getD (t .registers) (place w q) 0)) f
+
+  pub store-base : (w q f r : ℕ) → (hasWorker s w && hasRegister s q && hasLink s f && hasRegister s r) ≡ true → registerAt p w q ≡ recordNumber (getD (t .registers) (place w q) 0)
+  store-base w q f r here = let at = store-there s w q f r here in register-stands s t c w q (at .0 .worker) (at .0 .register)
+
+  -- "6": the test on the tables
+  pub full-stands : (w q f r : ℕ) → (hasWorker s w && hasRegister s q && hasLink s f && hasRegister s r) ≡ true
+      → logFull s p w q f .when ≡ (not (isOn (getD (t .changed) (linkThrough w q f .0) 0)) && leb (links s) (getD (t .lengths) w 0))
+  unfolding logFull
+  full-stands w q f r here =
+      let at = store-there s w q f r here in
+      (λ j. not (changedAt p (linkNumber s (store-base w q f r here j) f)) && leb (links s) (log-length s t c known w (at .0 .worker) j))
+      ∙ ap (λ (b : Bool). not b && leb (links s) (getD (t .lengths) w 0)) (changed-stands s t c (linkThrough w q f))
+
+  pub stored : (w q f r : ℕ) → (hasWorker s w && hasRegister s q && hasLink s f && hasRegister s r) ≡ true
+      → (getD (t .registers) (place w q) 0 ≡ 0 → ⊥)
+      → (not (isOn (getD (t .changed) (linkThrough w q f .0) 0)) && leb (links s) (getD (t .lengths) w 0)) ≡ false
+      → let l : LinkNumber = linkThrough w q f in
+      let old : RecordNumber = recordNumber (getD (t .values) (l .0) 0) in
+      let new : RecordNumber = recordNumber (getD (t .registers) (place w r) 0) in
+      eventOn s t c (Store w q f r)
+      ≡ record {
+        answer = Stored old;
+        collector = c;
+        tables = putHeld (heldAfter w new (t .snoops) (t .held)) (putValues (set (t .values) (l .0) (new .0)) (loggedOn s w l old t));
+      }
+  unfolding refusals does stores snooped
+  stored w q f r here some free =
+      let at = store-there s w q f r here in
+      let l : LinkNumber = linkThrough w q f in
+      let base = store-base w q f r here in
+      let new : registerAt p w r ≡ recordNumber (getD (t .registers) (place w r) 0) = register-stands s t c w r (at .0 .worker) (at .2) in
+      let link : linkNumber s (registerAt p w q) f ≡ l = ap (λ (a : RecordNumber). linkNumber s a f) base in
+      let unempty : eqb (registerAt p w q .0) 0 ≡ false = ne-eqb (registerAt p w q .0) 0 (λ e. some (ap (λ (a : RecordNumber). a .0) (sym base) ∙ e)) in
+      done-on known (Store w q f r) (stores s w q f r p) _
+      (unrefused known (Store w q f r) (ap not here, (unempty, (full-stands w q f r here ∙ free, tt))))
+      (ap (λ (m : LinkNumber). tablesOf s (snooped w (registerAt p w r) (withValue m (registerAt p w r) (logged w m p)))) link
+      ∙ ap (λ (a : RecordNumber). tablesOf s (snooped w a (withValue l a (logged w l p)))) new
+      ∙ store-tables w l (recordNumber (getD (t .registers) (place w r) 0)) (at .0 .worker) (λ off. room-left off))
+      ∙ (λ j.
+      record {
+        answer = Stored ((ap (valueAt p) link ∙ value-stands s t c l) j);
+        collector = store-collector w q f r j;
+        tables =
+            putHeld (heldAfter w (recordNumber (getD (t .registers) (place w r) 0)) (t .snoops) (t .held))
+            (putValues (set (t .values) (l .0) (getD (t .registers) (place w r) 0)) (loggedOn s w l (recordNumber (getD (t .values) (l .0) 0)) t));
+      })
+    where
+      room-left : isOn (getD (t .changed) (linkThrough w q f .0) 0) ≡ false → getD (t .lengths) w 0 < links s
+      room-left off = leb-false (links s) (getD (t .lengths) w 0) (ap (λ (b : Bool). not b && leb (links s) (getD (t .lengths) w 0)) (sym off) ∙ free)

@@ -1,0 +1,127 @@
+-- `worker::loads` meets its contract: it is `load-no-such`, `load-holds-none` or `loaded`. Assumes nothing.
+use Prim.Native.Nat.{ℕ, _+_, _*_, _<_}
+use denote.Ref.{at-last}
+use mathlib.Core.Path.{_≡_, refl, sym, ap, _∙_}
+use mathlib.Core.Bool.{Bool, true, _&&_}
+use native.Mathlib.Omega.{arith}
+use borrow.Author.Tests.{not-true, not-false}
+use lib.ListN.{getD, set}
+use Rattle.rules.specs.declared.Answer.the-variants.{Loaded}
+use Rattle.rules.specs.declared.RecordNumber.{RecordNumber}
+use Rattle.rules.specs.declared.LinkNumber.{LinkNumber}
+use Rattle.rules.specs.Size.{linkNumber}
+use Rattle.rules.specs.Outcome.{hasWorker, hasRegister, hasLink}
+use Rattle.laws.proofs.Refusals.{RegisterThere, load-there}
+use Rattle.tables.specs.Tables.{putRegisters}
+use Rattle.tables.specs.Lie.{recordNumber}
+use Rattle.worker.proofs.Refused.{load-no-such, load-holds-none}
+use Rattle.worker.proofs.Events.{register-low, base-stands, loaded}
+use Rattle.worker.specs.Lent.{loadsOn}
+use borrow.Author.Needs.{needs}
+use Rattle.worker.proofs.loads.Statement.{statement}
+use Rattle.worker.proofs.loads.Tie as tie
+
+-- the test that worker, registers and link are there
+there : (c : tie.Else1) → let at = c .before .before .before .before .before .before .args in (hasWorker (at .s) (at .w) && hasRegister (at .s) (at .r) && hasRegister (at .s) (at .q) && hasLink (at .s) (at .f)) ≡ true
+there c =
+    let at = c .before .before .before .before .before .before .args in
+    ap (λ (b : Bool). b && hasRegister (at .s) (at .q) && hasLink (at .s) (at .f)) (sym (c .before .before .before .has-register .ensures)) ∙ not-false _ (c .if1 .left)
+
+inside : (c : tie.Else1) → let at = c .before .before .before .before .before .before .args in RegisterThere (at .s) (at .w) (at .r) × (at .q < at .s .r) × (at .f < at .s .k)
+inside c = let at = c .before .before .before .before .before .before .args in load-there (at .s) (at .w) (at .r) (at .q) (at .f) (there c)
+
+has-register-requires : tie.Need-has-register-requires
+has-register-requires c κs = search needs
+
+returns : tie.Need-returns
+returns c t k known =
+    let at = c .before .before .before .before .before .before .args in
+    load-no-such known (at .w) (at .r) (at .q) (at .f)
+    (ap (λ (b : Bool). b && hasRegister (at .s) (at .q) && hasLink (at .s) (at .f)) (sym (c .before .before .before .has-register .ensures)) ∙ not-true _ (c .if1 .taken))
+
+register-place-requires : tie.Need-register-place-requires
+register-place-requires c κs = (c .before .before .before .before .before .before .pre .2 .sizes, inside c .0 .worker, inside c .1)
+
+mul-base : tie.Need-mul-base
+mul-base c = search needs
+
+slice-read-base : tie.Need-slice-read-base
+slice-read-base c = search needs
+
+returns-2 : tie.Need-returns-2
+returns-2 c t k known =
+    let tested = c .before .before .before in
+    let at = tested .before .before .before .before .before .before .args in
+    load-holds-none known (at .w) (at .r) (at .q) (at .f) (there tested)
+    (ap (λ (a : RecordNumber). a .0) (base-stands known (at .w) (at .r) (at .q) (at .f) (there tested))
+    ∙ ap (λ (i : ℕ). getD (at .registers .now) i 0) (sym (c .before .before .register-place .ensures .0))
+    ∙ c .if2 .taken)
+
+link-number-requires : tie.Need-link-number-requires
+link-number-requires c κs =
+    let tested = c .before .before .before in
+    let start = tested .before .before .before .before .before .before in
+    let at = start .args in (
+      start .pre .2 .sizes,
+      omega arith,
+      omega (arith, register-low (start .pre .2) (at .w) (at .q) (inside tested .0 .worker) (inside tested .1), ap (λ (i : ℕ). getD (at .registers .now) i 0) (c .before .before .register-place .ensures .0)),
+      inside tested .2,
+    )
+
+wide-requires : tie.Need-wide-requires
+wide-requires c κs = search needs
+
+mul-a : tie.Need-mul-a
+mul-a c = search needs
+
+shared-slice-read-a : tie.Need-shared-slice-read-a
+shared-slice-read-a c = search needs
+
+register-place-requires-2 : tie.Need-register-place-requires-2
+register-place-requires-2 c κs =
+    let tested = c .before .before .before .before .before .before in
+    (tested .before .before .before .before .before .before .pre .2 .sizes, inside tested .0 .worker, inside tested .0 .register)
+
+mul-registers : tie.Need-mul-registers
+mul-registers c = search needs
+
+slice-write-registers : tie.Need-slice-write-registers
+slice-write-registers c = search needs
+
+same-length : tie.Need-same-length
+same-length c = search needs
+
+returns-3 : tie.Need-returns-3
+returns-3 c t k known =
+    let tested = c .before .before .before .before .before .before .before in
+    let at = tested .before .before .before .before .before .before .args in
+    let from = c .before .before .before .before .before .before .register-place .ensures .0 in
+    let link : linkNumber (at .s) (recordNumber (getD (at .registers .now) (at .w * at .s .r + at .q) 0)) (at .f) .0 ≡ c .before .before .wide .result =
+    ap (λ (i : ℕ). linkNumber (at .s) (recordNumber (getD (at .registers .now) i 0)) (at .f) .0) (sym from)
+    ∙ ap (λ (l : LinkNumber). l .0) (sym (c .before .before .before .link-number .ensures .0))
+    ∙ sym (c .before .before .wide .ensures) in
+    loaded known (at .w) (at .r) (at .q) (at .f) (there tested)
+    (λ e. c .before .before .before .before .if2 .left (ap (λ (i : ℕ). getD (at .registers .now) i 0) from ∙ e))
+    ∙ (λ j.
+    let a : ℕ = getD (at .values .now) (link j) 0 in
+    record { answer = Loaded (recordNumber a); collector = k; tables = loadsOn (at .values) (at-last (at .registers) (set (at .registers .now) (sym (c .register-place2 .ensures .0) j) a)) t })
+
+pub loads-spec : {M : Type 1} → statement M
+loads-spec =
+    tie.close
+    (tie.spec
+    has-register-requires
+    returns
+    register-place-requires
+    mul-base
+    slice-read-base
+    returns-2
+    link-number-requires
+    wide-requires
+    mul-a
+    shared-slice-read-a
+    register-place-requires-2
+    mul-registers
+    slice-write-registers
+    same-length
+    returns-3)

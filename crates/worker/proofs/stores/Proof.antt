@@ -1,0 +1,265 @@
+-- `worker::stores` meets its contract: it is one of three refusals, or `stored`. Assumes nothing.
+use Prim.Native.Nat.{ℕ, _+_, _*_, _≤_, _<_}
+use mathlib.Core.Path.{_≡_, sym, ap, _∙_}
+use mathlib.Core.Bool.{Bool, true, false, not, _&&_}
+use native.Mathlib.Omega.{arith}
+use borrow.Author.Tests.{not-true, not-false, leb-false}
+use lib.Dec.{leb}
+use lib.ListN.{getD, set}
+use Rattle.rules.specs.declared.RecordNumber.{RecordNumber}
+use Rattle.rules.specs.declared.LinkNumber.{LinkNumber}
+use Rattle.rules.specs.declared.Answer.the-variants.{Stored}
+use Rattle.rules.specs.Size.{links, linkNumber}
+use Rattle.rules.specs.Outcome.{hasWorker, hasRegister, hasLink}
+use Rattle.laws.proofs.Refusals.{store-there}
+use Rattle.tables.specs.Tables.{Tables, putHeld, putValues}
+use Rattle.tables.specs.Lie.{isOn, recordNumber}
+use Rattle.worker.specs.Lent.{storesOn, loggedOn, heldAfter}
+use Rattle.tables.specs.Event.{Called}
+use Rattle.worker.proofs.Refused.{store-no-such, store-holds-none, store-log-full}
+use Rattle.worker.proofs.Events.{register-low}
+use Rattle.worker.proofs.Store.{store-base, full-stands, stored}
+use borrow.Author.Needs.{needs}
+use Rattle.worker.proofs.stores.Statement.{statement}
+use Rattle.worker.proofs.stores.Tie as tie
+
+abbrev start : tie.Else1 → tie.Start
+start c = c .before .before .before .before .before .before .before .before .before .before .before
+
+-- the test that worker, registers and link are there
+there : (c : tie.Else1) → let at = start c .args in (hasWorker (at .s) (at .w) && hasRegister (at .s) (at .q) && hasLink (at .s) (at .f) && hasRegister (at .s) (at .r)) ≡ true
+there c =
+    let at = start c .args in
+    ap (λ (b : Bool). b && hasLink (at .s) (at .f) && hasRegister (at .s) (at .r)) (sym (c .before .before .before .has-register .ensures)) ∙ not-false _ (c .if1 .left)
+
+-- the register that is read is the one of the event
+base : (c : tie.After-register-place) → let at = start (c .before) .args in getD (at .registers .now) (at .w * at .s .r + at .q) 0 ≡ getD (at .registers .now) (c .register-place .result) 0
+base c = let at = start (c .before) .args in ap (λ (i : ℕ). getD (at .registers .now) i 0) (sym (c .register-place .ensures .0))
+
+-- and the link is the one of the event
+link : (c : tie.After-link-number) → let at = start (c .before .before .before .before) .args in
+    linkNumber (at .s) (recordNumber (getD (at .registers .now) (at .w * at .s .r + at .q) 0)) (at .f) ≡ c .link-number .result
+link c =
+    let at = start (c .before .before .before .before) .args in
+    ap (λ (a : ℕ). linkNumber (at .s) (recordNumber a) (at .f)) (base (c .before .before .before)) ∙ sym (c .link-number .ensures .0)
+
+-- there is room for the entry
+free : (c : tie.Else3) → let at = start (c .before .before .before .before .before .before .before .before) .args in
+    let l = c .before .before .before .before .link-number .result in
+    (not (isOn (getD (at .changed .now) (l .0) 0)) && leb (links (at .s)) (getD (at .lengths .now) (at .w) 0)) ≡ false
+free c = sym (c .before .log-full .ensures) ∙ c .if3 .left
+
+has-register-requires : tie.Need-has-register-requires
+has-register-requires c κs = search needs
+
+returns : tie.Need-returns
+returns c t k known =
+    let at = c .before .before .before .before .before .before .before .before .before .before .before .args in
+    store-no-such known (at .w) (at .q) (at .f) (at .r)
+    (ap (λ (b : Bool). b && hasLink (at .s) (at .f) && hasRegister (at .s) (at .r)) (sym (c .before .before .before .has-register .ensures)) ∙ not-true _ (c .if1 .taken))
+
+register-place-requires : tie.Need-register-place-requires
+register-place-requires c κs =
+    let at = start c .args in
+    let inside = store-there (at .s) (at .w) (at .q) (at .f) (at .r) (there c) in
+    (start c .pre .2 .sizes, inside .0 .worker, inside .0 .register)
+
+mul-base : tie.Need-mul-base
+mul-base c = search needs
+
+shared-slice-read-base : tie.Need-shared-slice-read-base
+shared-slice-read-base c = search needs
+
+returns-2 : tie.Need-returns-2
+returns-2 c t k known =
+    let tested = c .before .before .before in
+    let at = start tested .args in
+    store-holds-none known (at .w) (at .q) (at .f) (at .r) (there tested)
+    (ap (λ (a : RecordNumber). a .0) (store-base known (at .w) (at .q) (at .f) (at .r) (there tested)) ∙ base (c .before .before) ∙ c .if2 .taken)
+
+link-number-requires : tie.Need-link-number-requires
+link-number-requires c κs =
+    let tested = c .before .before .before in
+    let at = start tested .args in
+    let inside = store-there (at .s) (at .w) (at .q) (at .f) (at .r) (there tested) in (
+      start tested .pre .2 .sizes,
+      omega arith,
+      omega (arith, register-low (start tested .pre .2) (at .w) (at .q) (inside .0 .worker) (inside .0 .register), base (c .before .before)),
+      inside .1,
+    )
+
+log-full-requires : tie.Need-log-full-requires
+log-full-requires c κs =
+    let tested = c .before .before .before .before .before .before in
+    let at = start tested .args in
+    let known = start tested .pre .2 in
+    let inside = store-there (at .s) (at .w) (at .q) (at .f) (at .r) (there tested) in (
+      known .sizes,
+      omega (arith, c .before .before .link-number .ensures .1, known .exact .changed),
+      omega (arith, inside .0 .worker, known .exact .lengths),
+    )
+
+same-length : tie.Need-same-length
+same-length c = search needs
+
+same-length-2 : tie.Need-same-length-2
+same-length-2 c = search needs
+
+returns-3 : tie.Need-returns-3
+returns-3 c t k known =
+    let linked = c .before .before .before .before in
+    let tested = linked .before .before .before .before in
+    let at = start tested .args in
+    store-log-full known (at .w) (at .q) (at .f) (at .r) (there tested)
+    (λ e. linked .before .if2 .left (sym (base (linked .before .before .before)) ∙ ap (λ (a : RecordNumber). a .0) (sym (store-base known (at .w) (at .q) (at .f) (at .r) (there tested))) ∙ e))
+    (full-stands known (at .w) (at .q) (at .f) (at .r) (there tested)
+    ∙ ap (λ (l : LinkNumber). not (isOn (getD (at .changed .now) (l .0) 0)) && leb (links (at .s)) (getD (at .lengths .now) (at .w) 0)) (link linked)
+    ∙ sym (c .before .log-full .ensures)
+    ∙ c .if3 .taken)
+
+wide-requires : tie.Need-wide-requires
+wide-requires c κs = search needs
+
+mul-old : tie.Need-mul-old
+mul-old c = search needs
+
+slice-read-old : tie.Need-slice-read-old
+slice-read-old c =
+    let linked = c .before .before .before .before .before .before in
+    let known = start (linked .before .before .before .before) .pre .2 in
+    omega (arith, linked .link-number .ensures .1, known .exact .values, c .before .wide .ensures)
+
+register-place-requires-2 : tie.Need-register-place-requires-2
+register-place-requires-2 c κs =
+    let tested = c .before .before .before .before .before .before .before .before .before .before in
+    let at = start tested .args in
+    let inside = store-there (at .s) (at .w) (at .q) (at .f) (at .r) (there tested) in
+    (start tested .pre .2 .sizes, inside .0 .worker, inside .2)
+
+mul-new : tie.Need-mul-new
+mul-new c =
+    let tested = c .before .before .before .before .before .before .before .before .before .before .before in
+    omega (arith, c .register-place2 .ensures .1, start tested .pre .2 .exact .registers, start tested .good)
+
+shared-slice-read-new : tie.Need-shared-slice-read-new
+shared-slice-read-new c =
+    let tested = c .before .before .before .before .before .before .before .before .before .before .before .before in
+    omega (arith, c .before .register-place2 .ensures .1, start tested .pre .2 .exact .registers)
+
+logged-requires : tie.Need-logged-requires
+logged-requires c κs =
+    let unfull = c .before .before .before .before .before .before .before in
+    let linked = unfull .before .before .before .before in
+    let tested = linked .before .before .before .before in
+    let at = start tested .args in
+    let known = start tested .pre .2 in
+    let inside = store-there (at .s) (at .w) (at .q) (at .f) (at .r) (there tested) in
+    record {
+      sizes = known .sizes;
+      worker = inside .0 .worker;
+      link = omega (arith, linked .link-number .ensures .1, known .exact .changed);
+      logs = known .exact .logs;
+      lengths = omega (arith, inside .0 .worker, known .exact .lengths);
+      free =
+          λ off.
+          leb-false (links (at .s)) (getD (at .lengths .now) (at .w) 0)
+          (ap (λ (b : Bool). not b && leb (links (at .s)) (getD (at .lengths .now) (at .w) 0)) (sym off) ∙ free unfull);
+    }
+
+mul-values : tie.Need-mul-values
+mul-values c = search needs
+
+slice-write-values : tie.Need-slice-write-values
+slice-write-values c =
+    let linked = c .before .before .before .before .before .before .before .before .before .before .before .before .before .before .before .before .before .before in
+    let known = start (linked .before .before .before .before) .pre .2 in
+    omega (arith, linked .link-number .ensures .1, known .exact .values, c .before .before .before .before .before .before .before .before .before .before .before .before .before .wide .ensures)
+
+snooped-requires : tie.Need-snooped-requires
+snooped-requires c κs =
+    let read = c .before .before .before .before .before .before .before .before .before .before .before .before in
+    let tested = read .before .before .before .before .before .before .before .before .before .before .before in
+    let at = start tested .args in
+    let known = start tested .pre .2 in
+    let inside = store-there (at .s) (at .w) (at .q) (at .f) (at .r) (there tested) in (
+      omega (arith, inside .0 .worker, known .exact .snoops),
+      omega (arith, register-low known (at .w) (at .r) (inside .0 .worker) (inside .2), known .exact .held, ap (λ (i : ℕ). getD (at .registers .now) i 0) (read .register-place2 .ensures .0)),
+    )
+
+same-length-3 : tie.Need-same-length-3
+same-length-3 c = search needs
+
+same-length-4 : tie.Need-same-length-4
+same-length-4 c = search needs
+
+same-length-5 : tie.Need-same-length-5
+same-length-5 c = search needs
+
+same-length-6 : tie.Need-same-length-6
+same-length-6 c = search needs
+
+same-length-7 : tie.Need-same-length-7
+same-length-7 c = search needs
+
+returns-4 : tie.Need-returns-4
+returns-4 c t k known =
+    let linked = c .before .before .before .before .before .before .before .before .before .before .before .before .before .before .before .before .before .before .before .before .before .before in
+    let tested = linked .before .before .before .before in
+    let at = start tested .args in
+    let here : Tables = storesOn (at .held) (at .values) (at .changed) (at .registers) (at .snoops) (at .logs) (at .lengths) t in
+    let l : LinkNumber = linked .link-number .result in
+    let logs = c .before .before .before .before .before .before .before .before .before .before .logged in
+    let place = c .before .before .before .before .before .before .before .before .before .before .before .before .before .before .before .register-place2 in
+    let wide = c .before .before .before .before .before .before .before .before .before .before .before .before .before .before .before .before .before .wide in
+    let from : LinkNumber → ℕ → ℕ → Called =
+    (λ m i r.
+    record {
+      answer = Stored (recordNumber (getD (at .values .now) i 0));
+      collector = k;
+      tables =
+          putHeld (heldAfter (at .w) (recordNumber (getD (at .registers .now) r 0)) (at .snoops .now) (at .held .now))
+          (putValues (set (at .values .now) i (getD (at .registers .now) r 0)) (loggedOn (at .s) (at .w) m (recordNumber (getD (at .values .now) i 0)) here));
+    }) in
+    stored known (at .w) (at .q) (at .f) (at .r) (there tested)
+    (λ e. linked .before .if2 .left (sym (base (linked .before .before .before)) ∙ e))
+    (ap (λ (l : LinkNumber). not (isOn (getD (at .changed .now) (l .0) 0)) && leb (links (at .s)) (getD (at .lengths .now) (at .w) 0)) (link linked) ∙ free (c .before .before .before .before .before .before .before .before .before .before .before .before .before .before .before .before .before .before))
+    ∙ ap (λ (l : LinkNumber). from l (l .0) (at .w * at .s .r + at .r)) (link linked)
+    ∙ (λ j. from l (sym (wide .ensures) j) (sym (place .ensures .0) j))
+    ∙ (λ j.
+    record {
+      answer = Stored (recordNumber (getD (at .values .now) (wide .result) 0));
+      collector = k;
+      tables = putHeld (sym (c .before .before .snooped .ensures) j) (putValues (set (at .values .now) (wide .result) (getD (at .registers .now) (place .result) 0)) (sym (logs .ensures here) j));
+    })
+
+pub stores-spec : {M : Type 1} → statement M
+stores-spec =
+    tie.close
+    (tie.spec
+    has-register-requires
+    returns
+    register-place-requires
+    mul-base
+    shared-slice-read-base
+    returns-2
+    link-number-requires
+    log-full-requires
+    same-length
+    same-length-2
+    returns-3
+    wide-requires
+    mul-old
+    slice-read-old
+    register-place-requires-2
+    mul-new
+    shared-slice-read-new
+    logged-requires
+    mul-values
+    slice-write-values
+    snooped-requires
+    same-length-3
+    same-length-4
+    same-length-5
+    same-length-6
+    same-length-7
+    returns-4)

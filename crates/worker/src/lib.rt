@@ -1,0 +1,224 @@
+// The worker events of document 01, each on the tables that it touches, of a pool that is known to be sound. All of it is inner (decision 4 of
+// docs/DECISIONS.md): the call on a whole pool is `pool::event`.
+//     makes, moves, drops, loads, stores    the events; each has the name of its definition in rules/specs/Worker.antt
+//     chosen                                the record that a make takes
+//     logged, snooped                       the parts of a store that may or may not happen
+use rules::Answer;
+use rules::Collector;
+use rules::Event;
+use rules::LinkNumber;
+use rules::RecordNumber;
+use rules::Refusal;
+use rules::Sizes;
+use tables::mark::is_on;
+use tables::mark::set_mark;
+use tables::place::link_count;
+use tables::place::link_number;
+use tables::place::log_place;
+use tables::place::record_place;
+use tables::place::register_place;
+use tables::place::wide;
+ghost use mathlib.Core.Path.{_≡_};
+ghost use mathlib.Core.Bool.{true, not, _&&_};
+ghost use Prim.Native.Nat.{_≤_, _<_};
+ghost use lib.Dec.{leb};
+ghost use lib.ListN.{length, getD};
+ghost use Rattle.rules.specs.Size.{inRange, links};
+ghost use Rattle.rules.specs.Worker.{chosen as chosenIn};
+ghost use Rattle.rules.specs.Outcome.{hasWorker, hasRegister};
+ghost use Rattle.tables.specs.Tables.{Tables, putUsed, putRegisters};
+ghost use Rattle.tables.specs.Lie.{isOn, poolOf};
+ghost use Rattle.tables.specs.Event.{SomePool, Answers};
+ghost use Rattle.worker.specs.Lent.{makesOn, loadsOn, storesOn, logsOn, loggedOn, RoomToLog, heldAfter};
+
+// "3: no such worker, register ..": there is such a one.
+fn has_register(s: Sizes, w: u8, r: u8) -> bool
+    ensures { λ x. ⌜ x ≡ (hasWorker s w && hasRegister s r) ⌝ }
+{
+    ((w as u16) < s.w) & ((r as u16) < s.r)
+}
+
+// What a make takes: "the lowest free record", none where none is free.
+fn chosen(used: &[u16]) -> RecordNumber
+    requires { ⌜ length (now used) ≤ 1024 ⌝ }
+    ensures { λ a. ⌜ ((s : Sizes) (t : Tables) (c : Collector) → a ≡ chosenIn (poolOf s (putUsed (now (used .entry)) t) c)) ⌝ }
+{
+    let mut i = 0;
+    while i < used.len() {
+        if !is_on(used, i) {
+            return RecordNumber(i as u16 + 1);
+        }
+        i += 1;
+    }
+    RecordNumber(0)
+}
+
+// "make w r: the lowest free record becomes used, its maker is w + 1, register r holds it."
+pub fn makes(
+    s: Sizes,
+    used: &mut [u16],
+    makers: &mut [u16],
+    registers: &mut [u16],
+    w: u8,
+    r: u8,
+) -> Answer
+    requires { ⌜ SomePool s (makesOn used makers registers) ⌝ }
+    ensures { λ x. ⌜ Answers s (Event.Make w r) (makesOn (used .entry) (makers .entry) (registers .entry)) x (makesOn (used .exit) (makers .exit) (registers .exit)) ⌝ }
+{
+    if !has_register(s, w, r) {
+        return Answer::Refused(Refusal::NoSuch);
+    }
+    let a = chosen(used);
+    if a.0 == 0 {
+        return Answer::Refused(Refusal::NoneFree);
+    }
+    let place = record_place(a);
+    set_mark(used, place, true);
+    makers[place] = w as u16 + 1;
+    let register = register_place(s, w as u16, r as u16);
+    registers[register] = a.0;
+    Answer::Made(a)
+}
+
+// "move w r q: register r takes what q holds."
+pub fn moves(s: Sizes, registers: &mut [u16], w: u8, r: u8, q: u8) -> Answer
+    requires { ⌜ SomePool s (putRegisters (now registers)) ⌝ }
+    ensures { λ x. ⌜ Answers s (Event.Move w r q) (putRegisters (now (registers .entry))) x (putRegisters (now (registers .exit))) ⌝ }
+{
+    if !(has_register(s, w, r) & ((q as u16) < s.r)) {
+        return Answer::Refused(Refusal::NoSuch);
+    }
+    let from = register_place(s, w as u16, q as u16);
+    let a = registers[from];
+    let to = register_place(s, w as u16, r as u16);
+    registers[to] = a;
+    Answer::Moved(RecordNumber(a))
+}
+
+// "drop w r: register r becomes none."
+pub fn drops(s: Sizes, registers: &mut [u16], w: u8, r: u8) -> Answer
+    requires { ⌜ SomePool s (putRegisters (now registers)) ⌝ }
+    ensures { λ x. ⌜ Answers s (Event.Drop w r) (putRegisters (now (registers .entry))) x (putRegisters (now (registers .exit))) ⌝ }
+{
+    if !has_register(s, w, r) {
+        return Answer::Refused(Refusal::NoSuch);
+    }
+    let register = register_place(s, w as u16, r as u16);
+    registers[register] = 0;
+    Answer::Dropped
+}
+
+// "load w r q f: register r takes link f of the record in q."
+pub fn loads(s: Sizes, values: &[u16], registers: &mut [u16], w: u8, r: u8, q: u8, f: u8) -> Answer
+    requires { ⌜ SomePool s (loadsOn values registers) ⌝ }
+    ensures { λ x. ⌜ Answers s (Event.Load w r q f) (loadsOn (values .entry) (registers .entry)) x (loadsOn (values .entry) (registers .exit)) ⌝ }
+{
+    if !(has_register(s, w, r) & ((q as u16) < s.r) & ((f as u16) < s.k)) {
+        return Answer::Refused(Refusal::NoSuch);
+    }
+    let from = register_place(s, w as u16, q as u16);
+    let base = registers[from];
+    if base == 0 {
+        return Answer::Refused(Refusal::HoldsNone);
+    }
+    let l = link_number(s, RecordNumber(base), f as u16);
+    let link = wide(l.0);
+    let a = values[link];
+    let to = register_place(s, w as u16, r as u16);
+    registers[to] = a;
+    Answer::Loaded(RecordNumber(a))
+}
+
+// "6: store that must log, and the worker's log has S entries"
+fn log_full(s: Sizes, changed: &[u16], lengths: &[u16], w: u8, l: LinkNumber) -> bool
+    requires { ⌜ (inRange s ≡ true) × (l .0 < length (now changed)) × (w < length (now lengths)) ⌝ }
+    ensures { λ x. ⌜ x ≡ (not (isOn (getD (now (changed .entry)) (l .0) 0)) && leb (links s) (getD (now (lengths .entry)) w 0)) ⌝ }
+{
+    let link = wide(l.0);
+    let n = lengths[w as usize];
+    !is_on(changed, link) & (link_count(s) <= n)
+}
+
+// "if the link's changed mark is off, (link, its value) is added to w's log and the mark goes on". There is room for it.
+fn logged(
+    s: Sizes,
+    changed: &mut [u16],
+    logs: &mut [u16],
+    lengths: &mut [u16],
+    w: u8,
+    l: LinkNumber,
+    old: RecordNumber,
+)
+    requires { ⌜ RoomToLog s (now changed) (now logs) (now lengths) w l ⌝ }
+    ensures { λ _. ⌜ ((t : Tables) → logsOn (changed .exit) (logs .exit) (lengths .exit) t ≡ loggedOn s w l old (logsOn (changed .entry) (logs .entry) (lengths .entry) t)) ⌝ }
+{
+    let link = wide(l.0);
+    if is_on(changed, link) {
+        return;
+    }
+    let worker = w as usize;
+    let n = lengths[worker];
+    let place = log_place(s, w as u16) + wide(n) * 2;
+    logs[place] = l.0;
+    logs[place + 1] = old.0;
+    lengths[worker] = n + 1;
+    set_mark(changed, link, true);
+}
+
+// "if w snoops and the value is not none, that record is marked held"
+fn snooped(held: &mut [u16], snoops: &[u16], w: u8, a: RecordNumber)
+    requires { ⌜ (w < length (now snoops)) × (a .0 ≤ length (now held)) ⌝ }
+    ensures { λ _. ⌜ now (held .exit) ≡ heldAfter w a (now (snoops .entry)) (now (held .entry)) ⌝ }
+{
+    if !is_on(snoops, w as usize) {
+        return;
+    }
+    if a.0 == 0 {
+        return;
+    }
+    let place = record_place(a);
+    set_mark(held, place, true);
+}
+
+// "store w q f r: .. the link takes what r holds (none is allowed)". "A store of an equal value is logged like any other."
+pub fn stores(
+    s: Sizes,
+    held: &mut [u16],
+    values: &mut [u16],
+    changed: &mut [u16],
+    registers: &[u16],
+    snoops: &[u16],
+    logs: &mut [u16],
+    lengths: &mut [u16],
+    w: u8,
+    q: u8,
+    f: u8,
+    r: u8,
+) -> Answer
+    requires { ⌜ SomePool s (storesOn held values changed registers snoops logs lengths) ⌝ }
+    ensures { λ x. ⌜ Answers s (Event.Store w q f r)
+        (storesOn (held .entry) (values .entry) (changed .entry) (registers .entry) (snoops .entry) (logs .entry) (lengths .entry))
+        x
+        (storesOn (held .exit) (values .exit) (changed .exit) (registers .entry) (snoops .entry) (logs .exit) (lengths .exit)) ⌝ }
+{
+    if !(has_register(s, w, q) & ((f as u16) < s.k) & ((r as u16) < s.r)) {
+        return Answer::Refused(Refusal::NoSuch);
+    }
+    let through = register_place(s, w as u16, q as u16);
+    let base = registers[through];
+    if base == 0 {
+        return Answer::Refused(Refusal::HoldsNone);
+    }
+    let l = link_number(s, RecordNumber(base), f as u16);
+    if log_full(s, changed, lengths, w, l) {
+        return Answer::Refused(Refusal::LogFull);
+    }
+    let link = wide(l.0);
+    let old = values[link];
+    let from = register_place(s, w as u16, r as u16);
+    let new = registers[from];
+    logged(s, changed, logs, lengths, w, l, RecordNumber(old));
+    values[link] = new;
+    snooped(held, snoops, w, RecordNumber(new));
+    Answer::Stored(RecordNumber(old))
+}
