@@ -1,0 +1,154 @@
+-- `count::look_up` meets its contract. The loop's invariant: the one entry for the link is in a log that is not passed. So a log that says something of the link has
+-- it, and the loop does not end by its test. Assumes nothing.
+use Prim.Native.Nat.{ℕ, _+_, _-_, _*_, _≤_, _<_}
+use mathlib.Core.Path.{_≡_, ap, _∙_}
+use mathlib.Core.List.{List, [], flatten}
+use native.Mathlib.Omega.{arith}
+use native.Mathlib.Numerals.{add-one}
+use lib.ListN.{length, getD, drop}
+use borrow.Author.Needs.{needs}
+use Rattle.rules.specs.declared.RecordNumber.{RecordNumber}
+use Rattle.rules.specs.Pool.{Entry}
+use Rattle.rules.specs.View.{times, oldIn}
+use Rattle.count.specs.Looked.{oldOr, logsIn}
+use Rattle.count.proofs.Search.{look-up-found, look-up-more, look-up-past}
+use Rattle.count.proofs.Logs.{length-logs, part-inside, length-part, log-part}
+use Rattle.count.proofs.look_up.Statement.{statement}
+use Rattle.count.proofs.look_up.Tie as tie
+
+abbrev Inv-loop : tie.InvT-loop
+Inv-loop s logs lengths l w₀ w = (w ≤ s .w) × (times l (flatten (drop w (logsIn s logs lengths))) ≡ 1)
+
+abbrev μ-loop : tie.MeasureT-loop
+μ-loop s logs lengths l w₀ w = s .w - w
+
+loop-holds : tie.Need-loop-holds Inv-loop μ-loop
+loop-holds c = (search needs, c .before .before .pre .one)
+
+log-place-requires : tie.Need-log-place-requires Inv-loop μ-loop
+log-place-requires c κs = search needs
+
+wide-requires : tie.Need-wide-requires Inv-loop μ-loop
+wide-requires c κs = search needs
+
+mul-n : tie.Need-mul-n Inv-loop μ-loop
+mul-n c = search needs
+
+shared-slice-read-n : tie.Need-shared-slice-read-n Inv-loop μ-loop
+shared-slice-read-n c = search needs
+
+wide-requires-2 : tie.Need-wide-requires-2 Inv-loop μ-loop
+wide-requires-2 c κs = search needs
+
+-- where a log's length is read: the place that the answers go back to
+abbrev start : tie.After-wide2 Inv-loop μ-loop → tie.Start Inv-loop μ-loop
+start c = c .before .before .before .before .before .before .before .before .before
+
+abbrev worker : tie.After-wide2 Inv-loop μ-loop → ℕ
+worker c = c .before .before .before .before .before .before .loop .w
+
+abbrev logs : tie.After-wide2 Inv-loop μ-loop → List (List Entry)
+logs c = logsIn (start c .args .s) (start c .args .logs .now) (start c .args .lengths .now)
+
+here : (c : tie.After-wide2 Inv-loop μ-loop) → worker c < length (logs c)
+here c = omega (arith, length-logs (start c .pre), c .before .before .before .before .if1 .taken)
+
+many : (c : tie.After-wide2 Inv-loop μ-loop) → c .wide2 .result ≡ getD (start c .args .lengths .now) (worker c) 0
+many c = c .wide2 .ensures ∙ ap (λ (i : ℕ). getD (start c .args .lengths .now) i 0) (c .before .before .wide .ensures)
+
+inside : (c : tie.After-wide2 Inv-loop μ-loop) → c .before .before .before .log-place .result + c .wide2 .result * 2 ≤ length (start c .args .logs .now)
+inside c = part-inside (start c .pre) (c .before .before .before .before .if1 .taken) (c .before .before .before .log-place .ensures .0) (many c)
+
+mul-to : tie.Need-mul-to Inv-loop μ-loop
+mul-to c = omega (arith, inside c)
+
+add-to : tie.Need-add-to Inv-loop μ-loop
+add-to c = omega (arith, inside c)
+
+mul-find : tie.Need-mul-find Inv-loop μ-loop
+mul-find c = search needs
+
+sub-find : tie.Need-sub-find Inv-loop μ-loop
+sub-find c = search needs
+
+part-find-start : tie.Need-part-find-start Inv-loop μ-loop
+part-find-start c = search needs
+
+part-find-end : tie.Need-part-find-end Inv-loop μ-loop
+part-find-end c = omega (arith, inside c)
+
+find-requires : tie.Need-find-requires Inv-loop μ-loop
+find-requires c κs = search needs
+
+enum-known-found : tie.Need-enum-known-found Inv-loop μ-loop
+enum-known-found c = search needs
+
+-- what a log says of the link
+says : (c : tie.After-find Inv-loop μ-loop) (b : RecordNumber) → let at = c .before .before in
+    oldIn (start at .args .l) (getD (logs at) (worker at) []) b ≡ oldOr (c .find .result) b
+says c b =
+    let at = c .before .before in
+    let place = at .before .before .before .log-place .ensures .0 in
+    let below = at .before .before .before .before .if1 .taken in
+    ap (λ es. oldIn (start at .args .l) es b) (log-part (start at .pre) below place (many at))
+    ∙ c .find .ensures (at .wide2 .result) (length-part (start at .pre) below place (many at)) b
+
+returns : tie.Need-returns Inv-loop μ-loop
+returns c =
+    let at = c .before .before .before .before .before in
+    let old = c .before .found .given in
+    look-up-found (start at .args .l) (logs at) (worker at) (here at) (start at .pre .one) (old .0 .0)
+    (λ b. says (c .before .before .before) b ∙ ap (λ found. oldOr found b) (old .1))
+
+enum-told : tie.Need-enum-told Inv-loop μ-loop
+enum-told c = search needs
+
+add-w : tie.Need-add-w Inv-loop μ-loop
+add-w c = search needs
+
+loop-less : tie.Need-loop-less Inv-loop μ-loop
+loop-less c = search needs
+
+loop-again : tie.Need-loop-again Inv-loop μ-loop
+loop-again c =
+    let at = c .before .before .before .before in (
+      omega arith,
+      rw (add-one (worker at))
+          (look-up-more (start at .args .l) (logs at) (worker at) (here at) (at .before .before .before .before .before .before .loop .inv .1)
+          (λ b. says (c .before .before) b ∙ ap (λ found. oldOr found b) (c .enum-told .given .1))),
+    )
+
+returns-2 : tie.Need-returns-2 Inv-loop μ-loop
+returns-2 c =
+    let at = c .before .before .loop in
+    let first = c .before .before .before .before .before in
+    absurd
+    (look-up-past (first .args .l) (logsIn (first .args .s) (first .args .logs .now) (first .args .lengths .now)) (at .w) (omega (arith, length-logs (first .pre)))
+    (at .inv .1))
+
+pub look-up-spec : {M : Type 1} → statement M
+look-up-spec =
+    tie.close
+    (tie.spec
+    Inv-loop
+    μ-loop
+    loop-holds
+    log-place-requires
+    wide-requires
+    mul-n
+    shared-slice-read-n
+    wide-requires-2
+    mul-to
+    add-to
+    mul-find
+    sub-find
+    part-find-start
+    part-find-end
+    find-requires
+    enum-known-found
+    returns
+    enum-told
+    add-w
+    loop-less
+    loop-again
+    returns-2)

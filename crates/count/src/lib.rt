@@ -1,0 +1,116 @@
+// Phase 5 of the collector, on the tables that it touches, of a pool that is known to be sound. All of it is inner (decision 4 of docs/DECISIONS.md).
+//     counts                             the step; each function has the name of its definition in rules/specs
+//     view_value, look_up, find          the view value of a link, and the look-up in the logs
+use advance::onward;
+use advance::stepped;
+use rules::Answered;
+use rules::Collector;
+use rules::LinkNumber;
+use rules::RecordNumber;
+use rules::Sizes;
+use tables::count::falls;
+use tables::count::rises;
+use tables::list::clear;
+use tables::mark::is_on;
+use tables::place::log_place;
+use tables::place::wide;
+ghost use mathlib.Core.Path.{_≡_};
+ghost use mathlib.Core.Bool.{true};
+ghost use Prim.Native.Nat.{ℕ, _*_, _<_};
+ghost use lib.ListN.{length, getD};
+ghost use Rattle.rules.specs.View.{oldIn, lookUp, viewValue};
+ghost use Rattle.tables.specs.Tables.{Tables};
+ghost use Rattle.tables.specs.Lie.{isOn, entries, poolOf};
+ghost use Rattle.tables.specs.Event.{InPhase, Steps};
+ghost use Rattle.count.specs.Lent.{viewsOn, countsOn};
+ghost use Rattle.count.specs.Looked.{oldOr, logsIn, OneEntry};
+
+// What a log says of a link.
+enum Found {
+    Old(RecordNumber),
+    Nothing,
+}
+
+// What a log, entry by entry, says of a link.
+fn find(log: &[u16], l: LinkNumber) -> Found
+    ensures { λ x. ⌜ ((n : ℕ) → length (now (log .entry)) ≡ n * 2 → (a : RecordNumber) → oldIn l (entries n (now (log .entry))) a ≡ oldOr x a) ⌝ }
+{
+    let mut i = 0;
+    while i + 1 < log.len() {
+        if log[i] == l.0 {
+            return Found::Old(RecordNumber(log[i + 1]));
+        }
+        i += 2;
+    }
+    Found::Nothing
+}
+
+// The look-up of a changed link in the logs: "the old value in the one log entry for it". In which order it looks is its own affair: there is one entry.
+fn look_up(s: Sizes, logs: &[u16], lengths: &[u16], l: LinkNumber) -> RecordNumber
+    requires { ⌜ OneEntry s (now logs) (now lengths) l ⌝ }
+    ensures { λ x. ⌜ x ≡ lookUp l (logsIn s (now (logs .entry)) (now (lengths .entry))) ⌝ }
+{
+    let mut w = 0;
+    while w < s.w {
+        let from = log_place(s, w);
+        let n = lengths[wide(w)];
+        let to = from + wide(n) * 2;
+        let found = find(&logs[from..to], l);
+        if let Found::Old(a) = found {
+            return a;
+        }
+        w += 1;
+    }
+    RecordNumber(0)
+}
+
+// "The view value of a link is its value if its changed mark is off, else the old value in the one log entry for it."
+fn view_value(
+    s: Sizes,
+    values: &[u16],
+    changed: &[u16],
+    logs: &[u16],
+    lengths: &[u16],
+    l: LinkNumber,
+) -> RecordNumber
+    requires { ⌜ (l .0 < length (now values)) × (l .0 < length (now changed)) × (isOn (getD (now changed) (l .0) 0) ≡ true → OneEntry s (now logs) (now lengths) l) ⌝ }
+    ensures { λ x. ⌜ ((t : Tables) (c : Collector) → x ≡ viewValue (poolOf s (viewsOn (values .entry) (changed .entry) (logs .entry) (lengths .entry) t) c) l) ⌝ }
+{
+    let link = wide(l.0);
+    if is_on(changed, link) {
+        return look_up(s, logs, lengths, l);
+    }
+    RecordNumber(values[link])
+}
+
+// "Phase 5: for the entry (link, old): first the count of old falls by 1, and at 0 it becomes a candidate; then the count of the link's view value rises by
+// 1. .. After the last, the history is emptied"
+pub fn counts(
+    s: Sizes,
+    counts: &mut [u16],
+    candidates: &mut [u16],
+    values: &[u16],
+    changed: &[u16],
+    logs: &[u16],
+    history: &mut [u16],
+    lengths: &mut [u16],
+    c: Collector,
+) -> Answered
+    requires { ⌜ InPhase 5 s (countsOn counts candidates values changed logs history lengths) c ⌝ }
+    ensures { λ x. ⌜ Steps 5 s (countsOn (counts .entry) (candidates .entry) (values .entry) (changed .entry) (logs .entry) (history .entry) (lengths .entry)) c x
+        (countsOn (counts .exit) (candidates .exit) (values .entry) (changed .entry) (logs .entry) (history .exit) (lengths .exit)) ⌝ }
+{
+    let last = wide(s.w);
+    let n = lengths[last];
+    let at = wide(c.position) * 2;
+    let l = LinkNumber(history[at]);
+    let old = RecordNumber(history[at + 1]);
+    falls(counts, candidates, old);
+    rises(counts, view_value(s, values, changed, logs, lengths, l));
+    if n <= c.position + 1 {
+        clear(&mut history[..wide(n) * 2]);
+        lengths[last] = 0;
+        return stepped(onward(c, n, 0));
+    }
+    stepped(onward(c, n, n))
+}

@@ -1,0 +1,128 @@
+-- The links of a record, emptied in tables.
+--     falls-written       a count falls
+--     emptiedTables, emptied-written     one link is emptied
+--     emptied-first, emptied-next        no link is emptied yet; one link more is
+--     Fit, value-fits     the value of the next link is within the tables, and its count may fall
+--     freedTables, freed-next     the record is freed, once its links are emptied
+-- Assumes nothing.
+use Prim.Native.Nat.{ℕ, zero, suc, _+_, _-_, _≤_, _<_}
+use mathlib.Core.Path.{_≡_, refl, sym, ap, _∙_, subst}
+use mathlib.Core.Logic.{⊎-elim}
+use mathlib.Core.Bool.{Bool, true, false, cond}
+use mathlib.Core.List.{List, map}
+use native.Mathlib.Omega.{arith}
+use native.Mathlib.Numerals.{add-one}
+use lib.Dec.{eqb}
+use lib.ListN.{getD, set, List·getD-map}
+use Rattle.rules.specs.declared.Sizes.{Sizes}
+use Rattle.rules.specs.declared.RecordNumber.{RecordNumber}
+use Rattle.rules.specs.declared.LinkNumber.{LinkNumber}
+use Rattle.rules.specs.declared.Collector.{Collector}
+use Rattle.rules.specs.Size.{linkNumber}
+use Rattle.rules.specs.Pool.{Pool, none, ofRecord, withRecord, countAt, valueAt}
+use Rattle.rules.specs.View.{bit}
+use Rattle.rules.specs.Collect.{falls, emptied, emptiedFrom, frees}
+use Rattle.tables.specs.Tables.{Tables, putUsed, putCounts, putCandidates, putValues}
+use Rattle.tables.specs.Lie.{bits, poolOf, tablesOf}
+use Rattle.tables.specs.Counted.{fewer, fallen}
+use Rattle.tables.proofs.Written.{value-written}
+use Rattle.laws.proofs.Lists.{map-set}
+use Rattle.laws.proofs.Change.{emptied-values}
+use Rattle.soundness.proofs.Known.{value-has-count}
+use Rattle.reclaim.specs.Lent.{Passes}
+
+-- ---- a count falls
+
+map-withRecord : {A B : Type 0} (f : A → B) (xs : List A) (i : ℕ) (x : A) → map f (withRecord xs i x) ≡ withRecord (map f xs) i (f x)
+map-withRecord f xs zero x = refl
+map-withRecord f xs (suc i) x = map-set f xs i x
+
+falls-written : (s : Sizes) (p : Pool) (a : RecordNumber) → let t : Tables = tablesOf s p in
+    tablesOf s (falls a p) ≡ putCounts (fewer (a .0) (t .counts)) (putCandidates (fallen (a .0) (t .counts) (t .candidates)) t)
+unfolding tablesOf falls fewer fallen
+falls-written s p a =
+    ap (λ (marks : List ℕ). putCounts (fewer (a .0) (p .records .count)) (putCandidates marks (tablesOf s p))) (by-test (eqb (countAt p a - 1) 0))
+  where
+    candidates : List Bool
+    candidates = p .records .candidate
+
+    by-test : (b : Bool) → bits (cond b (withRecord candidates (a .0) true) candidates) ≡ cond b (withRecord (bits candidates) (a .0) 1) (bits candidates)
+    by-test true = map-withRecord bit candidates a.0 true
+    by-test false = refl
+
+-- ---- one link
+
+-- the link at this place holds v
+abbrev emptiedOf : (v l : ℕ) → Tables → Tables
+emptiedOf v l t = putCounts (fewer v (t .counts)) (putCandidates (fallen v (t .counts) (t .candidates)) (putValues (set (t .values) l 0) t))
+
+abbrev pub emptiedTables : ℕ → Tables → Tables
+emptiedTables l t = emptiedOf (getD (t .values) l 0) l t
+
+value-read : (s : Sizes) (p : Pool) (l : LinkNumber) → valueAt p l .0 ≡ getD (tablesOf s p .values) (l .0) 0
+unfolding tablesOf
+value-read s p l = sym (List·getD-map (λ a. a .0) (p .links .value) (l .0) none)
+
+emptied-written : (s : Sizes) (p : Pool) (l : LinkNumber) → tablesOf s (emptied l p) ≡ emptiedTables (l .0) (tablesOf s p)
+unfolding emptied
+emptied-written s p l =
+    value-written s (falls (valueAt p l) p) l none
+    ∙ ap (λ (u : Tables). putValues (set (u .values) (l .0) 0) u) (falls-written s p (valueAt p l))
+    ∙ ap (λ (v : ℕ). emptiedOf v (l .0) (tablesOf s p)) (value-read s p l)
+
+-- ---- one link more
+
+-- the definition begins at the first link; this is the last one
+emptied-last : (s : Sizes) (a : RecordNumber) (f left : ℕ) (p : Pool) → emptiedFrom s a f (suc left) p ≡ emptied (linkNumber s a (f + left)) (emptiedFrom s a f left p)
+unfolding emptiedFrom
+emptied-last s a f zero p = ap (λ (g : ℕ). emptied (linkNumber s a g) p) (let e : f ≡ f + 0 = omega arith in e)
+emptied-last s a f (suc left) p =
+    let q : Pool = emptied (linkNumber s a f) p in
+    emptied-last s a (suc f) left q
+    ∙ ap (λ (g : ℕ). emptied (linkNumber s a g) (emptiedFrom s a (suc f) left q)) (let e : suc f + left ≡ f + suc left = omega arith in e)
+
+-- the tables after f links, and after one more
+pub emptied-first : (s : Sizes) (a : RecordNumber) (p : Pool) → tablesOf s (emptiedFrom s a 0 0 p) ≡ tablesOf s p
+unfolding emptiedFrom
+emptied-first s a p = refl
+
+pub emptied-next : (s : Sizes) (a : RecordNumber) (f : ℕ) (p : Pool) (u : Tables) → tablesOf s (emptiedFrom s a 0 f p) ≡ u
+    → tablesOf s (emptiedFrom s a 0 (f + 1) p) ≡ emptiedTables (linkNumber s a f .0) u
+emptied-next s a f p u e =
+    let q : Pool = emptiedFrom s a 0 f p in
+    ap (λ (n : ℕ). tablesOf s (emptiedFrom s a 0 n p)) (add-one f)
+    ∙ ap (tablesOf s) (emptied-last s a 0 f p ∙ ap (λ (g : ℕ). emptied (linkNumber s a g) q) (let z : 0 + f ≡ f = omega arith in z))
+    ∙ emptied-written s q (linkNumber s a f)
+    ∙ ap (emptiedTables (linkNumber s a f .0)) e
+
+-- ---- the value of the next link
+
+-- the value of a link is within the tables, and its count may fall
+abbrev pub Fit : Sizes → ℕ → Tables → Type 0
+Fit s l t = let v : ℕ = getD (t .values) l 0 in (v ≤ s .n) × ((1 ≤ v) → 1 ≤ ofRecord (t .counts) v 0)
+
+pub value-fits : {s : Sizes} {t : Tables} {c : Collector} {a : RecordNumber} → Passes s t c a → (f : ℕ) → f < s .k → (u : Tables)
+    → tablesOf s (emptiedFrom s a 0 f (poolOf s t c)) ≡ u → Fit s (linkNumber s a f .0) u
+unfolding tablesOf poolOf
+value-fits {s} {t} {c} {a} pass f k u e =
+    let p : Pool = poolOf s t c in
+    let q : Pool = emptiedFrom s a 0 f p in
+    let l : LinkNumber = linkNumber s a f in
+    let sound = pass .known .tables .sound in
+    let low : valueAt q l .0 ≤ s .n =
+    ⊎-elim (λ same. omega (arith, ap (λ x. x .0) same, sound .values l)) (λ empty. omega (arith, ap (λ x. x .0) empty)) (emptied-values s a 0 f p l) in
+    subst (Fit s (l .0)) e
+    (subst (λ (v : ℕ). (v ≤ s .n) × ((1 ≤ v) → 1 ≤ ofRecord (q .records .count) v 0)) (value-read s q l)
+    (low, value-has-count sound a f (pass .phase) (pass .some) (pass .low) (pass .taken) k))
+
+-- ---- freeing
+
+abbrev pub freedTables : ℕ → Tables → Tables
+freedTables a t = putUsed (withRecord (t .used) a 0) (putCandidates (withRecord (t .candidates) a 0) t)
+
+pub freed-next : (s : Sizes) (a : RecordNumber) (p : Pool) (u : Tables) → tablesOf s (emptiedFrom s a 0 (s .k) p) ≡ u → tablesOf s (frees s a p) ≡ freedTables (a .0) u
+unfolding frees tablesOf
+freed-next s a p u e =
+    let q : Pool = emptiedFrom s a 0 (s .k) p in
+    (λ j. putUsed (map-withRecord bit (q .records .used) (a .0) false j) (putCandidates (map-withRecord bit (q .records .candidate) (a .0) false j) (tablesOf s q)))
+    ∙ ap (freedTables (a .0)) e

@@ -1,0 +1,102 @@
+-- The two outcomes of phase 6, on known tables.
+--     closedTables             the tables after a close
+--     found-passes             what the search finds passes it
+--     closed-on, freed-on      the collect event where the search finds none, and where it finds a record
+-- Assumes nothing.
+use Prim.Native.Nat.{ℕ, zero, suc, _≤_}
+use mathlib.Core.Path.{_≡_, refl, sym, ap, _∙_}
+use mathlib.Core.Bool.{Bool, true, false, cond, _&&_}
+use mathlib.Core.List.{List, [], _∷_, map, zipWith}
+use mathlib.Core.Logic.{⊎-elim}
+use native.Mathlib.Omega.{arith}
+use native.Mathlib.Nat.{not-suc-le-zero}
+use lib.Dec.{eqb}
+use lib.ListN.{length, replicate}
+use Rattle.rules.specs.declared.Sizes.{Sizes}
+use Rattle.rules.specs.declared.RecordNumber.{RecordNumber}
+use Rattle.rules.specs.declared.Collector.{Collector}
+use Rattle.rules.specs.declared.Event.the-variants.{Collect}
+use Rattle.rules.specs.declared.Answer.the-variants.{Stepped, Freed}
+use Rattle.rules.specs.declared.Answered.{Answered}
+use Rattle.rules.specs.Pool.{Pool}
+use Rattle.rules.specs.View.{bit}
+use Rattle.rules.specs.Collect.{passes, reclaimed, frees, nextClosed, closes, freesOrCloses, reclaims, phases}
+use Rattle.tables.specs.Tables.{Tables, putHeld, putCandidates}
+use Rattle.tables.specs.Lie.{bits, poolOf, tablesOf}
+use Rattle.tables.specs.Known.{Known}
+use Rattle.tables.specs.Event.{written, eventOn}
+use Rattle.tables.proofs.RoundTrip.{known-back}
+use Rattle.tables.proofs.Done.{collect-is}
+use Rattle.laws.proofs.Search.{reclaimed-passes}
+use Rattle.laws.proofs.Change.{frees-collector}
+use Rattle.reclaim.specs.Lent.{Passes}
+use Rattle.reclaim.specs.Raw.{kept}
+
+-- ---- the close
+
+bits-off : (held : List Bool) → bits (map (λ h. false) held) ≡ replicate (length (bits held)) 0
+bits-off [] = refl
+bits-off (h ∷ held) = ap (λ t. 0 ∷ t) (bits-off held)
+
+bits-kept : (candidates : List Bool) (counts : List ℕ) → bits (zipWith (λ c n. c && eqb n 0) candidates counts) ≡ kept counts (bits candidates)
+unfolding kept zipWith
+bits-kept [] [] = refl
+bits-kept [] (n ∷ counts) = refl
+bits-kept (c ∷ candidates) [] = refl
+bits-kept (c ∷ candidates) (n ∷ counts) = λ j. bit-kept c (eqb n 0) j ∷ bits-kept candidates counts j
+  where
+    bit-kept : (c b : Bool) → bit (c && b) ≡ cond b (bit c) 0
+    bit-kept true true = refl
+    bit-kept true false = refl
+    bit-kept false true = refl
+    bit-kept false false = refl
+
+abbrev pub closedTables : Tables → Tables
+closedTables t = putHeld (replicate (length (t .held)) 0) (putCandidates (kept (t .counts) (t .candidates)) t)
+
+closes-written : (s : Sizes) (p : Pool) → tablesOf s (closes p) ≡ closedTables (tablesOf s p)
+unfolding tablesOf closes
+closes-written s p = λ j. putHeld (bits-off (p .records .held) j) (putCandidates (bits-kept (p .records .candidate) (p .records .count) j) (tablesOf s p))
+
+-- ---- the collect event
+
+module _ {s : Sizes} {t : Tables} {c : Collector} (known : Known s t c) (phase : c .phase ≡ 6) where
+  abbrev p : Pool
+  p = poolOf s t c
+
+  pub found-passes : (a : RecordNumber) → 1 ≤ a .0 → a ≡ reclaimed s p → Passes s t c a
+  found-passes a some e =
+      let pass : (passes s p (reclaimed s p) ≡ true) × (1 ≤ reclaimed s p .0) × (reclaimed s p .0 ≤ s .n) =
+      ⊎-elim (λ nothing. absurd (omega (arith, ap (λ x. x .0) e))) (λ x. x) (reclaimed-passes s p) in
+      record { known = known; phase = phase; some = some; low = omega (arith, ap (λ x. x .0) e, pass .2); taken = ap (passes s p) e ∙ pass .0 }
+
+  module _ (a : RecordNumber) (found : a ≡ reclaimed s p) where
+    -- the step, by the number of the record that the search finds
+    step-is : (k : ℕ) → a .0 ≡ k → eventOn s t c Collect ≡ written s (freesOrCloses s p k)
+    unfolding phases reclaims
+    step-is k e = collect-is s t c 6 phase ∙ ap (λ (b : ℕ). written s (freesOrCloses s p b)) (sym (ap (λ x. x .0) found) ∙ e)
+
+    pub closed-on : a .0 ≡ 0 → (x : Answered) → x ≡ record { answer = Stepped; collector = record { phase = 0; position = 0; closed = nextClosed (c .closed) } }
+        → (after : Tables) → closedTables t ≡ after → eventOn s t c Collect ≡ record { answer = x .answer; collector = x .collector; tables = after }
+    unfolding freesOrCloses written closes poolOf
+    closed-on none x answered after h =
+        step-is 0 none
+        ∙ (λ j.
+        record {
+          answer = sym answered j .answer;
+          collector = sym answered j .collector;
+          tables = (closes-written s p ∙ ap closedTables (known-back known) ∙ h) j;
+        })
+
+    pub freed-on : 1 ≤ a .0 → (after : Tables) → (Passes s t c a → tablesOf s (frees s a p) ≡ after)
+        → eventOn s t c Collect ≡ record { answer = Freed a; collector = c; tables = after }
+    unfolding freesOrCloses written poolOf
+    freed-on some after h =
+        step-is a.0 refl
+        ∙ freed a.0 some
+        ∙ (λ j. record { answer = Freed a; collector = frees-collector s a p j; tables = h (found-passes a some found) j })
+      where
+        freed : (k : ℕ) → 1 ≤ k → let b : RecordNumber = record { 0 = k } in
+            written s (freesOrCloses s p k) ≡ record { answer = Freed b; collector = frees s b p .collector; tables = tablesOf s (frees s b p) }
+        freed zero k = absurd (not-suc-le-zero k)
+        freed (suc i) k = refl

@@ -1,0 +1,156 @@
+// Phase 6 of the collector, on the tables that it touches, of a pool that is known to be sound. All of it is inner (decision 4 of docs/DECISIONS.md).
+//     reclaims                    the step; each function has the name of its definition in rules/specs/Collect.antt
+//     reclaimed, is_waiting       the search
+//     frees, empties              freeing
+//     closes                      the close
+use advance::stepped;
+use rules::Answer;
+use rules::Answered;
+use rules::Collector;
+use rules::RecordNumber;
+use rules::Sizes;
+use tables::count::falls;
+use tables::list::clear;
+use tables::mark::is_on;
+use tables::mark::set_mark;
+use tables::place::link_number;
+use tables::place::record_place;
+use tables::place::wide;
+ghost use mathlib.Core.Path.{_≡_};
+ghost use Prim.Native.Nat.{_<_};
+ghost use lib.ListN.{length, replicate};
+ghost use Rattle.rules.specs.Collect.{reclaimed as reclaimedIn, emptiedFrom, frees as freesIn};
+ghost use Rattle.tables.specs.Tables.{Tables};
+ghost use Rattle.tables.specs.Lie.{poolOf};
+ghost use Rattle.tables.specs.Known.{Known};
+ghost use Rattle.tables.specs.Event.{SomePool, InPhase, Steps};
+ghost use Rattle.reclaim.specs.Lent.{searchesOn, emptiesOn, freesOn, reclaimsOn, Passing, Leaves};
+ghost use Rattle.reclaim.specs.Raw.{waits, kept};
+
+// "used candidate with count 0, not held"
+fn is_waiting(used: &[u16], counts: &[u16], held: &[u16], candidates: &[u16], place: usize) -> bool
+    requires { ⌜ (place < length (now used)) × (place < length (now counts)) × (place < length (now held)) × (place < length (now candidates)) ⌝ }
+    ensures { λ x. ⌜ x ≡ waits (now (used .entry)) (now (counts .entry)) (now (held .entry)) (now (candidates .entry)) place ⌝ }
+{
+    is_on(used, place) & is_on(candidates, place) & (counts[place] == 0) & !is_on(held, place)
+}
+
+// What phase 6 takes next: "the lowest used candidate with count 0, not held, and every changed mark among its links off; the search goes record by record and
+// link by link and stops at the first record that passes". None where none passes.
+fn reclaimed(
+    s: Sizes,
+    used: &[u16],
+    counts: &[u16],
+    held: &[u16],
+    candidates: &[u16],
+    changed: &[u16],
+) -> RecordNumber
+    requires { ⌜ SomePool s (searchesOn used counts held candidates changed) ⌝ }
+    ensures { λ x. ⌜ ((t : Tables) (c : Collector) → let at : Tables = searchesOn (used .entry) (counts .entry) (held .entry) (candidates .entry) (changed .entry) t in
+        Known s at c → x ≡ reclaimedIn s (poolOf s at c)) ⌝ }
+{
+    let mut a = 1;
+    'records: loop {
+        if s.n < a {
+            break RecordNumber(0);
+        }
+        let record = RecordNumber(a);
+        a += 1;
+        if !is_waiting(used, counts, held, candidates, record_place(record)) {
+            continue 'records;
+        }
+        let mut f = 0;
+        while f < s.k {
+            if is_on(changed, wide(link_number(s, record, f).0)) {
+                continue 'records;
+            }
+            f += 1;
+        }
+        break record;
+    }
+}
+
+// "Freeing: links from 0 up, the count of the value falls by 1 and at 0 that record becomes a candidate, the link becomes none"
+fn empties(
+    s: Sizes,
+    counts: &mut [u16],
+    candidates: &mut [u16],
+    values: &mut [u16],
+    a: RecordNumber,
+)
+    requires { ⌜ Passing s (emptiesOn counts candidates values) a ⌝ }
+    ensures { λ _. ⌜ Leaves s (emptiesOn (counts .entry) (candidates .entry) (values .entry)) a (emptiedFrom s a 0 (s .k)) (emptiesOn (counts .exit) (candidates .exit) (values .exit)) ⌝ }
+{
+    let mut f = 0;
+    while f < s.k {
+        let link = wide(link_number(s, a, f).0);
+        let value = RecordNumber(values[link]);
+        falls(counts, candidates, value);
+        values[link] = 0;
+        f += 1;
+    }
+}
+
+// "then the record is free and no candidate"
+fn frees(
+    s: Sizes,
+    used: &mut [u16],
+    counts: &mut [u16],
+    candidates: &mut [u16],
+    values: &mut [u16],
+    a: RecordNumber,
+)
+    requires { ⌜ Passing s (freesOn used counts candidates values) a ⌝ }
+    ensures { λ _. ⌜ Leaves s (freesOn (used .entry) (counts .entry) (candidates .entry) (values .entry)) a (freesIn s a) (freesOn (used .exit) (counts .exit) (candidates .exit) (values .exit)) ⌝ }
+{
+    empties(s, counts, candidates, values, a);
+    let place = record_place(a);
+    set_mark(used, place, false);
+    set_mark(candidates, place, false);
+}
+
+// "all held marks off, candidate marks off where the count is not 0"
+fn closes(counts: &[u16], held: &mut [u16], candidates: &mut [u16])
+    requires { ⌜ length (now candidates) ≡ length (now counts) ⌝ }
+    ensures { λ _. ⌜ (now (held .exit) ≡ replicate (length (now (held .entry))) 0) × (now (candidates .exit) ≡ kept (now (counts .entry)) (now (candidates .entry))) ⌝ }
+{
+    clear(held);
+    let mut i = 0;
+    while i < counts.len() {
+        if counts[i] != 0 {
+            set_mark(candidates, i, false);
+        }
+        i += 1;
+    }
+}
+
+// "Phase 6: free the lowest .. Phase 6 stays. If none passes: .., closed-cycle number up by one, phase 0."
+pub fn reclaims(
+    s: Sizes,
+    used: &mut [u16],
+    counts: &mut [u16],
+    held: &mut [u16],
+    candidates: &mut [u16],
+    values: &mut [u16],
+    changed: &[u16],
+    c: Collector,
+) -> Answered
+    requires { ⌜ InPhase 6 s (reclaimsOn used counts held candidates values changed) c ⌝ }
+    ensures { λ x. ⌜ Steps 6 s (reclaimsOn (used .entry) (counts .entry) (held .entry) (candidates .entry) (values .entry) (changed .entry)) c x
+        (reclaimsOn (used .exit) (counts .exit) (held .exit) (candidates .exit) (values .exit) (changed .entry)) ⌝ }
+{
+    let a = reclaimed(s, used, counts, held, candidates, changed);
+    if a.0 == 0 {
+        closes(counts, held, candidates);
+        return stepped(Collector {
+            phase: 0,
+            position: 0,
+            closed: std::num::wrapping_add_u16(c.closed, 1),
+        });
+    }
+    frees(s, used, counts, candidates, values, a);
+    Answered {
+        answer: Answer::Freed(a),
+        collector: c,
+    }
+}
