@@ -1,4 +1,4 @@
-// Where a record, a link, a register and a log stand in their tables (decision 2 of docs/DECISIONS.md). Inner.
+// The sizes, and where a record, a link, a register and a log stand in their tables (decision 2 of docs/DECISIONS.md). Inner.
 use rules::LinkNumber;
 use rules::RecordNumber;
 use rules::Sizes;
@@ -7,6 +7,16 @@ ghost use mathlib.Core.Bool.{true};
 ghost use Prim.Native.Nat.{_+_, _-_, _*_, _≤_, _<_};
 ghost use Rattle.rules.specs.Size.{inRange, links, linkNumber};
 ghost use Rattle.tables.specs.Lie.{room};
+
+// "N records 1..1024, K links in each 1..8, W workers 1..8, R registers per worker 1..16."
+pub fn in_range(s: Sizes) -> bool
+    ensures { λ x. ⌜ x ≡ inRange s ⌝ }
+{
+    ((1 <= s.n) & (s.n <= 1024))
+        & ((1 <= s.k) & (s.k <= 8))
+        & ((1 <= s.w) & (s.w <= 8))
+        & ((1 <= s.r) & (s.r <= 16))
+}
 
 // A number of a table, as an index is.
 pub fn wide(x: u16) -> usize
