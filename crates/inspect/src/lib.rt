@@ -1,0 +1,304 @@
+// The sound check: one pass over each table, and one more over the changed marks. Local arrays of the largest size hold what has been seen of each link and the
+// tally of each record, so that its cost grows with the tables and with nothing else; no test of an entry is a branch. All of it is inner (decision 4 of
+// docs/DECISIONS.md): the public call is `pool::sound`.
+//     inspect                                    the check, on tables of exact lengths
+//     at_most, all_zero                          numbers that are at most another, and that are 0
+//     phase_fits, counted_to, uncleared_from     the collector's record, and where it parts the history
+//     enter, enter_logs, take_values             the entries of a list, of all logs, and the links' values are noted
+//     marks_match                                each changed mark against what was seen of its link
+//     tally_links, counts_match                  each count against the tally of its record
+//     numbers_fit, links_fit                     the parts of the check
+use rules::Collector;
+use rules::Sizes;
+use tables::place::link_count;
+use tables::place::log_place;
+use tables::place::wide;
+ghost use mathlib.Core.Path.{_≡_};
+ghost use mathlib.Core.Bool.{true, _&&_};
+ghost use mathlib.Core.List.{List, flatten};
+ghost use Prim.Native.Nat.{ℕ, _+_, _*_, _≤_};
+ghost use lib.Dec.{leb};
+ghost use lib.ListN.{length, replicate};
+ghost use Rattle.rules.specs.Size.{inRange, links};
+ghost use Rattle.rules.specs.Sound.{Each};
+ghost use Rattle.tables.specs.Tables.{Tables, lent};
+ghost use Rattle.tables.specs.Lie.{entries, room};
+ghost use Rattle.tables.specs.Known.{Exact};
+ghost use Rattle.clauses.specs.IsSound.{every, isZero};
+ghost use Rattle.clauses.specs.Entered.{RoomFor, enteredAll};
+ghost use Rattle.clauses.specs.Tallied.{tallied};
+ghost use Rattle.clauses.specs.Inspected.{phaseFits, countedTo, unclearedFrom, logsIn, paddedLogs, valued, marksMatch, countsMatch, linksFit, numbersFit, inspected};
+ghost use Rattle.inspect.specs.Lent.{numbersOn, linksOn, LinksToFit};
+
+// Every number of a table is at most another.
+fn at_most(xs: &[u16], most: u16) -> bool
+    ensures { λ x. ⌜ x ≡ every (λ n. leb n most) (now (xs .entry)) ⌝ }
+{
+    let mut ok = true;
+    let mut i = 0;
+    while i < xs.len() {
+        ok = ok & (xs[i] <= most);
+        i += 1;
+    }
+    ok
+}
+
+// Every number of a table is 0.
+fn all_zero(xs: &[u16]) -> bool
+    ensures { λ x. ⌜ x ≡ every isZero (now (xs .entry)) ⌝ }
+{
+    let mut any = 0;
+    let mut i = 0;
+    while i < xs.len() {
+        any = any | xs[i];
+        i += 1;
+    }
+    any == 0
+}
+
+// Phase and position fit each other and the number of entries in the history.
+fn phase_fits(s: Sizes, c: Collector, entries: u16) -> bool
+    ensures { λ x. ⌜ x ≡ phaseFits s c entries ⌝ }
+{
+    let phase = c.phase;
+    match phase {
+        0 | 6 => (c.position == 0) & (entries == 0),
+        1 => (c.position < s.w) & (entries == 0),
+        2 | 4 => c.position < s.w,
+        3 | 5 => c.position < entries,
+        _ => false,
+    }
+}
+
+// How many entries of the history are counted.
+fn counted_to(c: Collector) -> u16
+    ensures { λ x. ⌜ x ≡ countedTo c ⌝ }
+{
+    if c.phase == 5 { c.position } else { 0 }
+}
+
+// Behind how many entries the uncleared part of the history begins.
+fn uncleared_from(c: Collector, entries: u16) -> u16
+    ensures { λ x. ⌜ x ≡ unclearedFrom c entries ⌝ }
+{
+    if c.phase == 2 {
+        return 0;
+    }
+    if c.phase == 3 {
+        return c.position;
+    }
+    entries
+}
+
+// The entries of a list are in range; each raises what was seen of its link, and is the last that is known of it.
+fn enter(
+    seen: &mut [u32; 8192],
+    last: &mut [u16; 8192],
+    list: &[u16],
+    links: u16,
+    records: u16,
+    by: u32,
+) -> bool
+    requires { ⌜ RoomFor (now seen) (length (now list) * by) ⌝ }
+    ensures { λ x. ⌜ ((n : ℕ) → length (now (list .entry)) ≡ n * 2
+        → enteredAll links records by (entries n (now (list .entry))) (record { ok = true; seen = now (seen .entry); last = now (last .entry) })
+        ≡ record { ok = x; seen = now (seen .exit); last = now (last .exit) }) ⌝ }
+{
+    let mut ok = true;
+    let mut i = 0;
+    while i + 1 < list.len() {
+        let link = list[i];
+        let old = list[i + 1];
+        ok = ok & (link < links) & (old <= records);
+        let place = wide(link % 8192);
+        seen[place] = seen[place] + by;
+        last[place] = old;
+        i += 2;
+    }
+    ok
+}
+
+// The entries of all logs, and 0 past their lengths.
+fn enter_logs(
+    s: Sizes,
+    seen: &mut [u32; 8192],
+    last: &mut [u16; 8192],
+    logs: &[u16],
+    lengths: &[u16],
+) -> bool
+    requires { ⌜ (inRange s ≡ true) × (length (now logs) ≡ s .w * room s) × (length (now lengths) ≡ s .w + 1) × Each (λ n. n ≤ links s) (now lengths) × RoomFor (now seen) 131072 ⌝ }
+    ensures { λ x. ⌜ (let noted = enteredAll (links s) (s .n) 1 (flatten (logsIn s (now (logs .entry)) (now (lengths .entry)))) (record { ok = true; seen = now (seen .entry); last = now (last .entry) }) in
+        (x ≡ (noted .ok && paddedLogs s (now (logs .entry)) (now (lengths .entry)))) × (noted .seen ≡ now (seen .exit)) × (noted .last ≡ now (last .exit))) ⌝ }
+{
+    let links = link_count(s);
+    let room = wide(links) * 2;
+    let mut ok = true;
+    let mut w = 0;
+    while w < s.w {
+        let from = log_place(s, w);
+        let n = lengths[wide(w)];
+        let to = from + wide(n) * 2;
+        let end = from + room;
+        let entered = enter(seen, last, &logs[from..to], links, s.n, 1);
+        let padded = all_zero(&logs[to..end]);
+        ok = ok & entered & padded;
+        w += 1;
+    }
+    ok
+}
+
+// The links' values, each a record number, are the last that is known of each link.
+fn take_values(last: &mut [u16; 8192], values: &[u16], records: u16) -> bool
+    requires { ⌜ (length (now values) ≤ 8192) × (length (now last) ≡ 8192) ⌝ }
+    ensures { λ x. ⌜ ((seen : List ℕ) → valued records (now (values .entry)) (record { ok = true; seen = seen; last = now (last .entry) }) ≡ record { ok = x; seen = seen; last = now (last .exit) }) ⌝ }
+{
+    let mut ok = true;
+    let mut l = 0;
+    while l < values.len() {
+        let value = values[l];
+        ok = ok & (value <= records);
+        last[l] = value;
+        l += 1;
+    }
+    ok
+}
+
+// Each changed mark is how often its link stands among the logs and the uncleared history, and no link stands twice in the history.
+fn marks_match(changed: &[u16], seen: &[u32; 8192]) -> bool
+    requires { ⌜ length (now changed) ≤ 8192 ⌝ }
+    ensures { λ x. ⌜ x ≡ marksMatch (now (changed .entry)) (now (seen .entry)) ⌝ }
+{
+    let mut ok = true;
+    let mut l = 0;
+    while l < changed.len() {
+        let times = seen[l];
+        let mark = changed[l] as u32;
+        ok = ok & ((times % 131072 == mark) & (times < 262144));
+        l += 1;
+    }
+    ok
+}
+
+// How many of the first links count for each record, in four tallies side by side.
+fn tally_links(tally: &mut [u16; 8320], last: &[u16; 8192], links: usize)
+    requires { ⌜ (now tally ≡ replicate 8320 0) × (links ≤ 8192) ⌝ }
+    ensures { λ _. ⌜ (now (tally .exit) ≡ tallied (now (last .entry)) links (replicate 8320 0)) × Each (λ x. x ≤ 8192) (now (tally .exit)) ⌝ }
+{
+    let mut l = 0;
+    while l < links {
+        let place = l % 4 * 2080 + wide(last[l] % 2048);
+        tally[place] = tally[place] + 1;
+        l += 1;
+    }
+}
+
+// Each count is the tally of its record.
+fn counts_match(counts: &[u16], tally: &[u16; 8320]) -> bool
+    requires { ⌜ (length (now counts) ≤ 1024) × Each (λ x. x ≤ 8192) (now tally) ⌝ }
+    ensures { λ x. ⌜ x ≡ countsMatch (now (counts .entry)) (now (tally .entry)) ⌝ }
+{
+    let mut ok = true;
+    let mut i = 0;
+    while i < counts.len() {
+        let a = i + 1;
+        let sum = tally[a] + tally[2080 + a] + tally[4160 + a] + tally[6240 + a];
+        ok = ok & (sum == counts[i]);
+        i += 1;
+    }
+    ok
+}
+
+// Every number of the tables that hold one number for a record, a register or a worker is in its range.
+fn numbers_fit(
+    s: Sizes,
+    used: &[u16],
+    held: &[u16],
+    candidates: &[u16],
+    makers: &[u16],
+    registers: &[u16],
+    snoops: &[u16],
+) -> bool
+    ensures { λ x. ⌜ ((t : Tables) → x ≡ numbersFit s (numbersOn (used .entry) (held .entry) (candidates .entry) (makers .entry) (registers .entry) (snoops .entry) t)) ⌝ }
+{
+    at_most(used, 1)
+        & at_most(held, 1)
+        & at_most(candidates, 1)
+        & at_most(makers, s.w)
+        & at_most(registers, s.n)
+        & at_most(snoops, 1)
+}
+
+// Every clause on links: the entries of logs and history, what stands past them, the changed marks and the counts.
+fn links_fit(
+    s: Sizes,
+    counts: &[u16],
+    values: &[u16],
+    changed: &[u16],
+    logs: &[u16],
+    history: &[u16],
+    lengths: &[u16],
+    c: Collector,
+) -> bool
+    requires { ⌜ LinksToFit s (linksOn counts values changed logs history lengths) c ⌝ }
+    ensures { λ x. ⌜ ((t : Tables) → x ≡ linksFit s (linksOn (counts .entry) (values .entry) (changed .entry) (logs .entry) (history .entry) (lengths .entry) t) c) ⌝ }
+{
+    let links = link_count(s);
+    let n = lengths[wide(s.w)];
+    let to = wide(counted_to(c)) * 2;
+    let from = wide(uncleared_from(c, n)) * 2;
+    let end = wide(n) * 2;
+    let mut seen = [0u32; 8192];
+    let mut last = [0u16; 8192];
+    let mut tally = [0u16; 8320];
+    let counted = enter(&mut seen, &mut last, &history[..to], links, s.n, 131072);
+    let valued = take_values(&mut last, values, s.n);
+    let logged = enter_logs(s, &mut seen, &mut last, logs, lengths);
+    let cleared = enter(&mut seen, &mut last, &history[to..from], links, s.n, 131072);
+    let uncleared = enter(
+        &mut seen,
+        &mut last,
+        &history[from..end],
+        links,
+        s.n,
+        131073,
+    );
+    let padded = all_zero(&history[end..]);
+    let flagged = at_most(changed, 1);
+    let marked = marks_match(changed, &seen);
+    tally_links(&mut tally, &last, wide(links));
+    let matched = counts_match(counts, &tally);
+    counted & valued & logged & cleared & uncleared & padded & flagged & marked & matched
+}
+
+// The whole check, on tables of exact lengths.
+pub fn inspect(
+    s: Sizes,
+    used: &[u16],
+    counts: &[u16],
+    held: &[u16],
+    candidates: &[u16],
+    makers: &[u16],
+    values: &[u16],
+    changed: &[u16],
+    registers: &[u16],
+    snoops: &[u16],
+    logs: &[u16],
+    history: &[u16],
+    lengths: &[u16],
+    c: Collector,
+) -> bool
+    requires { ⌜ (inRange s ≡ true) × Exact s (lent used counts held candidates makers values changed registers snoops logs history lengths) ⌝ }
+    ensures { λ x. ⌜ x ≡ inspected s
+        (lent (used .entry) (counts .entry) (held .entry) (candidates .entry) (makers .entry) (values .entry) (changed .entry) (registers .entry) (snoops .entry) (logs .entry) (history .entry) (lengths .entry)) c ⌝ }
+{
+    if !at_most(lengths, link_count(s)) {
+        return false;
+    }
+    if !phase_fits(s, c, lengths[wide(s.w)]) {
+        return false;
+    }
+    if !numbers_fit(s, used, held, candidates, makers, registers, snoops) {
+        return false;
+    }
+    links_fit(s, counts, values, changed, logs, history, lengths, c)
+}
