@@ -1,0 +1,57 @@
+-- A number in decimal digits.
+--     decimal-one, decimal-more     the digits of a number below 10, and those of any other
+--     length-more, decimal-most     how many there are
+-- Assumes nothing.
+use Prim.Native.Nat.{ℕ, zero, suc, _+_, _^_, _/_, _%_, _≤_, _<_, zero-le}
+use mathlib.Core.Path.{_≡_, sym, ap, _∙_}
+use mathlib.Core.Logic.{by-cases}
+use mathlib.Core.List.{List, [], _∷_, _++_}
+use native.Mathlib.Omega.{arith}
+use native.Mathlib.Decide.{decLt}
+use borrow.Author.Tests.{lt-ltb, le-ltb}
+use lib.ListN.{length, length-append}
+use Rattle.text.specs.Text.{digits, decimal}
+
+digits-one : (most n : ℕ) → n < 10 → digits (suc most) n ≡ (48 + n) ∷ []
+unfolding digits
+digits-one most n h = rw (lt-ltb n 10 h)
+
+digits-more : (most n : ℕ) → 10 ≤ n → digits (suc most) n ≡ digits most (n / 10) ++ ((48 + n % 10) ∷ [])
+unfolding digits
+digits-more most n h = rw (le-ltb n 10 h)
+
+-- room for one digit more than a number has changes nothing
+digits-enough : (most n : ℕ) → n < 10 ^ suc most → digits (suc most) n ≡ digits (suc (suc most)) n
+digits-enough zero n h = digits-one 0 n h ∙ sym (digits-one 1 n h)
+digits-enough (suc most) n h =
+    by-cases (decLt n 10)
+    (λ low. digits-one (suc most) n low ∙ sym (digits-one (suc (suc most)) n low))
+    (λ high.
+    let ten : 10 ≤ n = omega arith in
+    digits-more (suc most) n ten
+    ∙ ap (λ (ds : List ℕ). ds ++ ((48 + n % 10) ∷ [])) (digits-enough most (n / 10) (omega arith))
+    ∙ sym (digits-more (suc (suc most)) n ten))
+
+pub decimal-one : (n : ℕ) → n < 10 → decimal n ≡ (48 + n) ∷ []
+decimal-one n h = digits-one 19 n h
+
+pub decimal-more : (n : ℕ) → 10 ≤ n → n < 2 ^ 64 → decimal n ≡ decimal (n / 10) ++ ((48 + n % 10) ∷ [])
+decimal-more n h fits =
+    digits-more 19 n h ∙ ap (λ (ds : List ℕ). ds ++ ((48 + n % 10) ∷ [])) (digits-enough 18 (n / 10) (omega arith))
+
+pub length-more : (n : ℕ) → 10 ≤ n → n < 2 ^ 64 → length (decimal n) ≡ length (decimal (n / 10)) + 1
+length-more n h fits = rw (decimal-more n h fits, length-append)
+
+digits-most : (most m n : ℕ) → n < 10 ^ suc m → length (digits most n) ≤ suc m
+unfolding digits
+digits-most zero m n h = zero-le
+digits-most (suc most) zero n h = rw (digits-one most n h) (omega arith)
+digits-most (suc most) (suc m) n h =
+    by-cases (decLt n 10)
+    (λ low. rw (digits-one most n low) (omega arith))
+    (λ high.
+    rw (digits-more most n (omega arith))
+    (omega (arith, length-append (digits most (n / 10)) ((48 + n % 10) ∷ []), digits-most most m (n / 10) (omega arith))))
+
+pub decimal-most : (m n : ℕ) → n < 10 ^ suc m → length (decimal n) ≤ suc m
+decimal-most m n h = digits-most 20 m n h
