@@ -1,0 +1,11 @@
+-- Laws of the field reader.
+--     Tags        the tags and their payloads
+--     Payload     a field whose payload is whole, by its tag
+--     Order       what stands at a place, by the order of its tests
+--     Taken       where a field lies that is taken, and the step number of an event
+--     Part        a trace that is read part by part
+pub mod Tags
+pub mod Payload
+pub mod Order
+pub mod Taken
+pub mod Part
