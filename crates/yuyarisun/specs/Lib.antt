@@ -1,0 +1,3 @@
+-- The library for other languages.
+--     Exported     what each exported call answers and leaves
+pub mod Exported

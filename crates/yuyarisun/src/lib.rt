@@ -1,0 +1,634 @@
+// The library for C and Rust: the public calls, each `#[no_mangle] pub extern "C"` under a name that begins with `yuyarisun_`. A slice is a pointer and then a length;
+// tables must not overlap. The sizes are n, k, w and r. A call on a pool answers the number of "Numbers a call may answer"; its value is put into `value`, 0 where it
+// refuses. The header is include/yuyarisun.h.
+//     yuyarisun_make, _move, _drop, _load, _store, _collect     one event of each kind: `pool::event`
+//     yuyarisun_fresh, _sound, _free_records                    the other calls of `pool`
+//     yuyarisun_inner_event                                     inner: an event on a pool that is known to be sound; in no header
+// Inner: one_event, event_of.
+use events::event_known;
+use pool::event;
+use pool::free_records;
+use pool::fresh;
+use pool::sound;
+use reply::number_of;
+use reply::value_of;
+use rules::Answered;
+use rules::Collector;
+use rules::Event;
+use rules::Sizes;
+ghost use mathlib.Core.Path.{_≡_};
+ghost use mathlib.Core.Bool.{_&&_};
+ghost use Rattle.rules.specs.Outcome.{freeMarks};
+ghost use Rattle.tables.specs.Tables.{lent};
+ghost use Rattle.tables.specs.Lie.{marks};
+ghost use Rattle.tables.specs.Known.{Known};
+ghost use Rattle.tables.specs.Event.{eventOn};
+ghost use Rattle.clauses.specs.IsSound.{isSound};
+ghost use Rattle.pool.specs.Calls.{fits, called, madeFresh};
+ghost use Rattle.yuyarisun.specs.Exported.{sizesOf, collectorOf, eventOf, numbers};
+
+// One event on a lent pool, in numbers.
+fn one_event(
+    n: u16,
+    k: u16,
+    w: u16,
+    r: u16,
+    used: &mut [u16],
+    counts: &mut [u16],
+    held: &mut [u16],
+    candidates: &mut [u16],
+    makers: &mut [u16],
+    values: &mut [u16],
+    changed: &mut [u16],
+    registers: &mut [u16],
+    snoops: &mut [u16],
+    logs: &mut [u16],
+    history: &mut [u16],
+    lengths: &mut [u16],
+    phase: &mut u16,
+    position: &mut u16,
+    closed: &mut u16,
+    value: &mut u16,
+    e: Event,
+) -> u16
+    ensures { λ x. ⌜ numbers (called (sizesOf n k w r) (lent (used .entry) (counts .entry) (held .entry) (candidates .entry) (makers .entry) (values .entry) (changed .entry) (registers .entry) (snoops .entry) (logs .entry) (history .entry) (lengths .entry)) (collectorOf (now (phase .entry)) (now (position .entry)) (now (closed .entry))) e)
+        ≡ record { number = x; value = now (value .exit); phase = now (phase .exit); position = now (position .exit); closed = now (closed .exit); tables = lent (used .exit) (counts .exit) (held .exit) (candidates .exit) (makers .exit) (values .exit) (changed .exit) (registers .exit) (snoops .exit) (logs .exit) (history .exit) (lengths .exit) } ⌝ }
+{
+    let s = Sizes { n, k, w, r };
+    let c = Collector {
+        phase: *phase,
+        position: *position,
+        closed: *closed,
+    };
+    let x = event(
+        s,
+        used,
+        counts,
+        held,
+        candidates,
+        makers,
+        values,
+        changed,
+        registers,
+        snoops,
+        logs,
+        history,
+        lengths,
+        c,
+        e,
+    );
+    let after = x.collector;
+    *phase = after.phase;
+    *position = after.position;
+    *closed = after.closed;
+    let answer = x.answer;
+    *value = value_of(answer);
+    number_of(answer)
+}
+
+// make: the lowest free record becomes used, and the register holds it. The value is its number.
+#[no_mangle]
+pub extern "C" fn yuyarisun_make(
+    n: u16,
+    k: u16,
+    w: u16,
+    r: u16,
+    used: &mut [u16],
+    counts: &mut [u16],
+    held: &mut [u16],
+    candidates: &mut [u16],
+    makers: &mut [u16],
+    values: &mut [u16],
+    changed: &mut [u16],
+    registers: &mut [u16],
+    snoops: &mut [u16],
+    logs: &mut [u16],
+    history: &mut [u16],
+    lengths: &mut [u16],
+    phase: &mut u16,
+    position: &mut u16,
+    closed: &mut u16,
+    value: &mut u16,
+    worker: u8,
+    register: u8,
+) -> u16
+    ensures { λ x. ⌜ numbers (called (sizesOf n k w r) (lent (used .entry) (counts .entry) (held .entry) (candidates .entry) (makers .entry) (values .entry) (changed .entry) (registers .entry) (snoops .entry) (logs .entry) (history .entry) (lengths .entry)) (collectorOf (now (phase .entry)) (now (position .entry)) (now (closed .entry))) (Event.Make worker register))
+        ≡ record { number = x; value = now (value .exit); phase = now (phase .exit); position = now (position .exit); closed = now (closed .exit); tables = lent (used .exit) (counts .exit) (held .exit) (candidates .exit) (makers .exit) (values .exit) (changed .exit) (registers .exit) (snoops .exit) (logs .exit) (history .exit) (lengths .exit) } ⌝ }
+{
+    one_event(
+        n,
+        k,
+        w,
+        r,
+        used,
+        counts,
+        held,
+        candidates,
+        makers,
+        values,
+        changed,
+        registers,
+        snoops,
+        logs,
+        history,
+        lengths,
+        phase,
+        position,
+        closed,
+        value,
+        Event::Make {
+            w: worker,
+            r: register,
+        },
+    )
+}
+
+// move: the register takes what the register `from` holds, which is the value.
+#[no_mangle]
+pub extern "C" fn yuyarisun_move(
+    n: u16,
+    k: u16,
+    w: u16,
+    r: u16,
+    used: &mut [u16],
+    counts: &mut [u16],
+    held: &mut [u16],
+    candidates: &mut [u16],
+    makers: &mut [u16],
+    values: &mut [u16],
+    changed: &mut [u16],
+    registers: &mut [u16],
+    snoops: &mut [u16],
+    logs: &mut [u16],
+    history: &mut [u16],
+    lengths: &mut [u16],
+    phase: &mut u16,
+    position: &mut u16,
+    closed: &mut u16,
+    value: &mut u16,
+    worker: u8,
+    register: u8,
+    from: u8,
+) -> u16
+    ensures { λ x. ⌜ numbers (called (sizesOf n k w r) (lent (used .entry) (counts .entry) (held .entry) (candidates .entry) (makers .entry) (values .entry) (changed .entry) (registers .entry) (snoops .entry) (logs .entry) (history .entry) (lengths .entry)) (collectorOf (now (phase .entry)) (now (position .entry)) (now (closed .entry))) (Event.Move worker register from))
+        ≡ record { number = x; value = now (value .exit); phase = now (phase .exit); position = now (position .exit); closed = now (closed .exit); tables = lent (used .exit) (counts .exit) (held .exit) (candidates .exit) (makers .exit) (values .exit) (changed .exit) (registers .exit) (snoops .exit) (logs .exit) (history .exit) (lengths .exit) } ⌝ }
+{
+    one_event(
+        n,
+        k,
+        w,
+        r,
+        used,
+        counts,
+        held,
+        candidates,
+        makers,
+        values,
+        changed,
+        registers,
+        snoops,
+        logs,
+        history,
+        lengths,
+        phase,
+        position,
+        closed,
+        value,
+        Event::Move {
+            w: worker,
+            r: register,
+            q: from,
+        },
+    )
+}
+
+// drop: the register becomes none. The value is 0.
+#[no_mangle]
+pub extern "C" fn yuyarisun_drop(
+    n: u16,
+    k: u16,
+    w: u16,
+    r: u16,
+    used: &mut [u16],
+    counts: &mut [u16],
+    held: &mut [u16],
+    candidates: &mut [u16],
+    makers: &mut [u16],
+    values: &mut [u16],
+    changed: &mut [u16],
+    registers: &mut [u16],
+    snoops: &mut [u16],
+    logs: &mut [u16],
+    history: &mut [u16],
+    lengths: &mut [u16],
+    phase: &mut u16,
+    position: &mut u16,
+    closed: &mut u16,
+    value: &mut u16,
+    worker: u8,
+    register: u8,
+) -> u16
+    ensures { λ x. ⌜ numbers (called (sizesOf n k w r) (lent (used .entry) (counts .entry) (held .entry) (candidates .entry) (makers .entry) (values .entry) (changed .entry) (registers .entry) (snoops .entry) (logs .entry) (history .entry) (lengths .entry)) (collectorOf (now (phase .entry)) (now (position .entry)) (now (closed .entry))) (Event.Drop worker register))
+        ≡ record { number = x; value = now (value .exit); phase = now (phase .exit); position = now (position .exit); closed = now (closed .exit); tables = lent (used .exit) (counts .exit) (held .exit) (candidates .exit) (makers .exit) (values .exit) (changed .exit) (registers .exit) (snoops .exit) (logs .exit) (history .exit) (lengths .exit) } ⌝ }
+{
+    one_event(
+        n,
+        k,
+        w,
+        r,
+        used,
+        counts,
+        held,
+        candidates,
+        makers,
+        values,
+        changed,
+        registers,
+        snoops,
+        logs,
+        history,
+        lengths,
+        phase,
+        position,
+        closed,
+        value,
+        Event::Drop {
+            w: worker,
+            r: register,
+        },
+    )
+}
+
+// load: the register takes the link of the record in the register `through`, which is the value.
+#[no_mangle]
+pub extern "C" fn yuyarisun_load(
+    n: u16,
+    k: u16,
+    w: u16,
+    r: u16,
+    used: &mut [u16],
+    counts: &mut [u16],
+    held: &mut [u16],
+    candidates: &mut [u16],
+    makers: &mut [u16],
+    values: &mut [u16],
+    changed: &mut [u16],
+    registers: &mut [u16],
+    snoops: &mut [u16],
+    logs: &mut [u16],
+    history: &mut [u16],
+    lengths: &mut [u16],
+    phase: &mut u16,
+    position: &mut u16,
+    closed: &mut u16,
+    value: &mut u16,
+    worker: u8,
+    register: u8,
+    through: u8,
+    link: u8,
+) -> u16
+    ensures { λ x. ⌜ numbers (called (sizesOf n k w r) (lent (used .entry) (counts .entry) (held .entry) (candidates .entry) (makers .entry) (values .entry) (changed .entry) (registers .entry) (snoops .entry) (logs .entry) (history .entry) (lengths .entry)) (collectorOf (now (phase .entry)) (now (position .entry)) (now (closed .entry))) (Event.Load worker register through link))
+        ≡ record { number = x; value = now (value .exit); phase = now (phase .exit); position = now (position .exit); closed = now (closed .exit); tables = lent (used .exit) (counts .exit) (held .exit) (candidates .exit) (makers .exit) (values .exit) (changed .exit) (registers .exit) (snoops .exit) (logs .exit) (history .exit) (lengths .exit) } ⌝ }
+{
+    one_event(
+        n,
+        k,
+        w,
+        r,
+        used,
+        counts,
+        held,
+        candidates,
+        makers,
+        values,
+        changed,
+        registers,
+        snoops,
+        logs,
+        history,
+        lengths,
+        phase,
+        position,
+        closed,
+        value,
+        Event::Load {
+            w: worker,
+            r: register,
+            q: through,
+            f: link,
+        },
+    )
+}
+
+// store: the link of the record in the register `through` takes what the register holds. The value is the one overwritten.
+#[no_mangle]
+pub extern "C" fn yuyarisun_store(
+    n: u16,
+    k: u16,
+    w: u16,
+    r: u16,
+    used: &mut [u16],
+    counts: &mut [u16],
+    held: &mut [u16],
+    candidates: &mut [u16],
+    makers: &mut [u16],
+    values: &mut [u16],
+    changed: &mut [u16],
+    registers: &mut [u16],
+    snoops: &mut [u16],
+    logs: &mut [u16],
+    history: &mut [u16],
+    lengths: &mut [u16],
+    phase: &mut u16,
+    position: &mut u16,
+    closed: &mut u16,
+    value: &mut u16,
+    worker: u8,
+    through: u8,
+    link: u8,
+    register: u8,
+) -> u16
+    ensures { λ x. ⌜ numbers (called (sizesOf n k w r) (lent (used .entry) (counts .entry) (held .entry) (candidates .entry) (makers .entry) (values .entry) (changed .entry) (registers .entry) (snoops .entry) (logs .entry) (history .entry) (lengths .entry)) (collectorOf (now (phase .entry)) (now (position .entry)) (now (closed .entry))) (Event.Store worker through link register))
+        ≡ record { number = x; value = now (value .exit); phase = now (phase .exit); position = now (position .exit); closed = now (closed .exit); tables = lent (used .exit) (counts .exit) (held .exit) (candidates .exit) (makers .exit) (values .exit) (changed .exit) (registers .exit) (snoops .exit) (logs .exit) (history .exit) (lengths .exit) } ⌝ }
+{
+    one_event(
+        n,
+        k,
+        w,
+        r,
+        used,
+        counts,
+        held,
+        candidates,
+        makers,
+        values,
+        changed,
+        registers,
+        snoops,
+        logs,
+        history,
+        lengths,
+        phase,
+        position,
+        closed,
+        value,
+        Event::Store {
+            w: worker,
+            q: through,
+            f: link,
+            r: register,
+        },
+    )
+}
+
+// collect: one collector step. The value is the record freed, otherwise 0.
+#[no_mangle]
+pub extern "C" fn yuyarisun_collect(
+    n: u16,
+    k: u16,
+    w: u16,
+    r: u16,
+    used: &mut [u16],
+    counts: &mut [u16],
+    held: &mut [u16],
+    candidates: &mut [u16],
+    makers: &mut [u16],
+    values: &mut [u16],
+    changed: &mut [u16],
+    registers: &mut [u16],
+    snoops: &mut [u16],
+    logs: &mut [u16],
+    history: &mut [u16],
+    lengths: &mut [u16],
+    phase: &mut u16,
+    position: &mut u16,
+    closed: &mut u16,
+    value: &mut u16,
+) -> u16
+    ensures { λ x. ⌜ numbers (called (sizesOf n k w r) (lent (used .entry) (counts .entry) (held .entry) (candidates .entry) (makers .entry) (values .entry) (changed .entry) (registers .entry) (snoops .entry) (logs .entry) (history .entry) (lengths .entry)) (collectorOf (now (phase .entry)) (now (position .entry)) (now (closed .entry))) Event.Collect)
+        ≡ record { number = x; value = now (value .exit); phase = now (phase .exit); position = now (position .exit); closed = now (closed .exit); tables = lent (used .exit) (counts .exit) (held .exit) (candidates .exit) (makers .exit) (values .exit) (changed .exit) (registers .exit) (snoops .exit) (logs .exit) (history .exit) (lengths .exit) } ⌝ }
+{
+    one_event(
+        n,
+        k,
+        w,
+        r,
+        used,
+        counts,
+        held,
+        candidates,
+        makers,
+        values,
+        changed,
+        registers,
+        snoops,
+        logs,
+        history,
+        lengths,
+        phase,
+        position,
+        closed,
+        value,
+        Event::Collect,
+    )
+}
+
+// Makes lent tables a fresh pool, whatever they held; 1 where a size or a length is wrong, and then nothing changes.
+#[no_mangle]
+pub extern "C" fn yuyarisun_fresh(
+    n: u16,
+    k: u16,
+    w: u16,
+    r: u16,
+    used: &mut [u16],
+    counts: &mut [u16],
+    held: &mut [u16],
+    candidates: &mut [u16],
+    makers: &mut [u16],
+    values: &mut [u16],
+    changed: &mut [u16],
+    registers: &mut [u16],
+    snoops: &mut [u16],
+    logs: &mut [u16],
+    history: &mut [u16],
+    lengths: &mut [u16],
+    phase: &mut u16,
+    position: &mut u16,
+    closed: &mut u16,
+) -> u16
+    ensures { λ x. ⌜ numbers (madeFresh (sizesOf n k w r) (lent (used .entry) (counts .entry) (held .entry) (candidates .entry) (makers .entry) (values .entry) (changed .entry) (registers .entry) (snoops .entry) (logs .entry) (history .entry) (lengths .entry)) (collectorOf (now (phase .entry)) (now (position .entry)) (now (closed .entry))))
+        ≡ record { number = x; value = 0; phase = now (phase .exit); position = now (position .exit); closed = now (closed .exit); tables = lent (used .exit) (counts .exit) (held .exit) (candidates .exit) (makers .exit) (values .exit) (changed .exit) (registers .exit) (snoops .exit) (logs .exit) (history .exit) (lengths .exit) } ⌝ }
+{
+    let s = Sizes { n, k, w, r };
+    let c = Collector {
+        phase: *phase,
+        position: *position,
+        closed: *closed,
+    };
+    let x = fresh(
+        s,
+        used,
+        counts,
+        held,
+        candidates,
+        makers,
+        values,
+        changed,
+        registers,
+        snoops,
+        logs,
+        history,
+        lengths,
+        c,
+    );
+    let after = x.collector;
+    *phase = after.phase;
+    *position = after.position;
+    *closed = after.closed;
+    let answer = x.answer;
+    number_of(answer)
+}
+
+// Whether sizes are in range, every length is exact and the pool is sound.
+#[no_mangle]
+pub extern "C" fn yuyarisun_sound(
+    n: u16,
+    k: u16,
+    w: u16,
+    r: u16,
+    used: &[u16],
+    counts: &[u16],
+    held: &[u16],
+    candidates: &[u16],
+    makers: &[u16],
+    values: &[u16],
+    changed: &[u16],
+    registers: &[u16],
+    snoops: &[u16],
+    logs: &[u16],
+    history: &[u16],
+    lengths: &[u16],
+    phase: u16,
+    position: u16,
+    closed: u16,
+) -> bool
+    ensures { λ x. ⌜ x ≡ (fits (sizesOf n k w r) (lent (used .entry) (counts .entry) (held .entry) (candidates .entry) (makers .entry) (values .entry) (changed .entry) (registers .entry) (snoops .entry) (logs .entry) (history .entry) (lengths .entry)) && isSound (sizesOf n k w r) (lent (used .entry) (counts .entry) (held .entry) (candidates .entry) (makers .entry) (values .entry) (changed .entry) (registers .entry) (snoops .entry) (logs .entry) (history .entry) (lengths .entry)) (collectorOf phase position closed)) ⌝ }
+{
+    sound(
+        Sizes { n, k, w, r },
+        used,
+        counts,
+        held,
+        candidates,
+        makers,
+        values,
+        changed,
+        registers,
+        snoops,
+        logs,
+        history,
+        lengths,
+        Collector {
+            phase,
+            position,
+            closed,
+        },
+    )
+}
+
+// How many records are free, by the table of used marks.
+#[no_mangle]
+pub extern "C" fn yuyarisun_free_records(used: &[u16]) -> usize
+    ensures { λ x. ⌜ x ≡ freeMarks (marks (now (used .entry))) ⌝ }
+{
+    free_records(used)
+}
+
+// The event of a trace's tag, with its numbers in the trace's order; collect, if it is no other's.
+fn event_of(tag: u8, a: u8, b: u8, c: u8, d: u8) -> Event
+    ensures { λ x. ⌜ x ≡ eventOf tag a b c d ⌝ }
+{
+    match tag {
+        0x10 => Event::Make { w: a, r: b },
+        0x11 => Event::Move { w: a, r: b, q: c },
+        0x12 => Event::Drop { w: a, r: b },
+        0x13 => Event::Load {
+            w: a,
+            r: b,
+            q: c,
+            f: d,
+        },
+        0x14 => Event::Store {
+            w: a,
+            q: b,
+            f: c,
+            r: d,
+        },
+        _ => Event::Collect,
+    }
+}
+
+// An event on a pool that is known to be sound, which nothing checks. Inner: it is for the Rust type, whose tables are its own (rust/src/lib.rs), and in no header.
+#[no_mangle]
+pub extern "C" fn yuyarisun_inner_event(
+    n: u16,
+    k: u16,
+    w: u16,
+    r: u16,
+    used: &mut [u16],
+    counts: &mut [u16],
+    held: &mut [u16],
+    candidates: &mut [u16],
+    makers: &mut [u16],
+    values: &mut [u16],
+    changed: &mut [u16],
+    registers: &mut [u16],
+    snoops: &mut [u16],
+    logs: &mut [u16],
+    history: &mut [u16],
+    lengths: &mut [u16],
+    phase: &mut u16,
+    position: &mut u16,
+    closed: &mut u16,
+    value: &mut u16,
+    tag: u8,
+    a: u8,
+    b: u8,
+    c: u8,
+    d: u8,
+) -> u16
+    requires { ⌜ Known (sizesOf n k w r) (lent used counts held candidates makers values changed registers snoops logs history lengths) (collectorOf (now phase) (now position) (now closed)) ⌝ }
+    ensures { λ x. ⌜ numbers (eventOn (sizesOf n k w r) (lent (used .entry) (counts .entry) (held .entry) (candidates .entry) (makers .entry) (values .entry) (changed .entry) (registers .entry) (snoops .entry) (logs .entry) (history .entry) (lengths .entry)) (collectorOf (now (phase .entry)) (now (position .entry)) (now (closed .entry))) (eventOf tag a b c d))
+        ≡ record { number = x; value = now (value .exit); phase = now (phase .exit); position = now (position .exit); closed = now (closed .exit); tables = lent (used .exit) (counts .exit) (held .exit) (candidates .exit) (makers .exit) (values .exit) (changed .exit) (registers .exit) (snoops .exit) (logs .exit) (history .exit) (lengths .exit) } ⌝ }
+{
+    let s = Sizes { n, k, w, r };
+    let before = Collector {
+        phase: *phase,
+        position: *position,
+        closed: *closed,
+    };
+    let x = event_known(
+        s,
+        used,
+        counts,
+        held,
+        candidates,
+        makers,
+        values,
+        changed,
+        registers,
+        snoops,
+        logs,
+        history,
+        lengths,
+        before,
+        event_of(tag, a, b, c, d),
+    );
+    let after = x.collector;
+    *phase = after.phase;
+    *position = after.position;
+    *closed = after.closed;
+    let answer = x.answer;
+    *value = value_of(answer);
+    number_of(answer)
+}
