@@ -1,0 +1,19 @@
+-- What is proved of traces.
+--     Comes         what comes at a place of a trace, by what may come there
+--     Turns         a replay and a stretch, turn by turn
+--     Along         a replay along a stretch of events
+--     Behind        how a trace stands behind its events is how its replay ends
+--     Put           the answers that were put into a caller's slice
+--     Rest          a stretch done event by event on lent tables
+--     Sized         a trace behind its sizes field
+--     Whole         a whole trace, by its first field
+--     WholeCase     document 01's whole case, computed by the definitions
+pub mod Comes
+pub mod Turns
+pub mod Along
+pub mod Behind
+pub mod Put
+pub mod Rest
+pub mod Sized
+pub mod Whole
+pub mod WholeCase

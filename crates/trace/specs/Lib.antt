@@ -1,0 +1,9 @@
+-- Whole traces.
+--     Replay      a whole replay: from the bytes of a trace to its lines, its last line, and the pool at its end
+--     Stretch     events that stand one after another in a trace, done on lent tables
+--     Stand       how a trace stands behind them, of which a part has been read
+--     Traced      a whole trace on lent tables
+pub mod Replay
+pub mod Stretch
+pub mod Stand
+pub mod Traced
