@@ -1,6 +1,6 @@
 -- The call's own tests: what they tell of the tables, and what the call does where each of them refuses.
 --     Fitting                 sizes in range and exact lengths
---     fits-tells, checked-known     what the two tests tell
+--     fits-tells, checked-known, check-is     what the two tests tell
 --     wrong-shape             where the first is false: 1
 --     not-sound               where the second is: 2
 --     known-called            where both are true the call is the event
@@ -36,7 +36,7 @@ module _ (s : Sizes) (t : Tables) where
         record { sizes = fitting .0; exact = fitting .1; tables = inspected-exactly s t c (fitting .1) (fitting .0) .0 sound }
 
     -- the check as it goes is the definition's test
-    check-is : fits s t ≡ true → isSound s t c ≡ inspected s t c
+    pub check-is : fits s t ≡ true → isSound s t c ≡ inspected s t c
     check-is fit = let fitting = fits-tells fit in sym (inspected-is s t c (fitting .1) (fitting .0))
 
     pub sound-false : fits s t ≡ false → (fits s t && isSound s t c) ≡ false

@@ -61,7 +61,7 @@ fn is_exact(
 }
 
 // "1: a size is out of its range, or a lent table has another length": it is not so.
-fn has_shape(
+pub fn has_shape(
     s: Sizes,
     used: &[u16],
     counts: &[u16],

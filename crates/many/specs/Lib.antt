@@ -1,0 +1,3 @@
+-- Many events at once.
+--     Many     what the call answers and leaves
+pub mod Many
