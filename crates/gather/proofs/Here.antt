@@ -27,6 +27,7 @@ use Rattle.tables.specs.Lie.{recordNumber, poolOf}
 use Rattle.tables.specs.Known.{Known}
 use Rattle.tables.proofs.Entered.{entryIn}
 use Rattle.tables.proofs.Stand.{row-stands, log-length, history-length, entry-stands}
+use Rattle.advance.specs.Moved.{Movable}
 
 module _ {s : Sizes} {t : Tables} {c : Collector} (known : Known s t c) where
   abbrev p : Pool
@@ -40,7 +41,7 @@ module _ {s : Sizes} {t : Tables} {c : Collector} (known : Known s t c) where
   position-known k e = position-in sound k e
 
   -- no phase has more positions than S, or than there are workers
-  pub onward-asks : (k : ℕ) → k ≤ 5 → c .phase ≡ k → (c .phase ≤ 5) × (c .position < 65535)
+  pub onward-asks : (k : ℕ) → k ≤ 5 → c .phase ≡ k → Movable c
   onward-asks k h e =
       let m : ℕ = length (p .history) in
       let workers : s .w ≤ 8192 = omega (arith, bounds s (known .sizes) .w-most) in

@@ -5,11 +5,12 @@
 --     moves-on                   a phase that has positions
 --     flag-written, snoops-on, clears-on, scans-on     phases 1, 3 and 4
 -- Assumes nothing.
-use Prim.Native.Nat.{ℕ, _*_}
+use Prim.Native.Nat.{ℕ, _*_, _≤_}
 use mathlib.Core.Path.{_≡_, refl, sym, ap, _∙_}
 use mathlib.Core.Logic.{inl}
 use mathlib.Core.Bool.{Bool, true, false}
 use mathlib.Core.List.{List}
+use native.Mathlib.Omega.{arith}
 use lib.ListN.{length, getD, take, drop, set}
 use Rattle.rules.specs.declared.Sizes.{Sizes}
 use Rattle.rules.specs.declared.RecordNumber.{RecordNumber}
@@ -29,6 +30,8 @@ use Rattle.tables.proofs.RoundTrip.{known-back}
 use Rattle.tables.proofs.Stand.{row-stands, history-length}
 use Rattle.tables.proofs.Written.{changed-written, snoop-written}
 use Rattle.tables.proofs.Done.{collect-is, moved-on}
+use Rattle.advance.specs.Moved.{MovesTo}
+use Rattle.advance.proofs.Moved.{others-move}
 use Rattle.gather.specs.Raw.{heldIn}
 use Rattle.gather.proofs.Held.{held-marks}
 use Rattle.gather.proofs.Here.{position-known, entry-known}
@@ -43,12 +46,13 @@ abbrev pub Onward : (n entries : ℕ) → Collector → Answered → Type 0
 Onward n entries c x = (history : List Entry) → length history ≡ entries → x ≡ record { answer = Stepped; collector = advanced n history c }
 
 -- from what `advance::stepped` and `advance::onward` ensure
-pub onward-answers : (n : ℕ) (c : Collector) {entries same : ℕ} {next : Collector} {x : Answered} → x ≡ record { answer = Stepped; collector = next }
-    → ((history : List Entry) → length history ≡ same → next ≡ advanced n history c)
+pub onward-answers : (n : ℕ) (c : Collector) {entries same : ℕ} {next : Collector} {x : Answered} → c .phase ≤ 5
+    → x ≡ record { answer = Stepped; collector = next }
+    → MovesTo n same c next
     → same ≡ entries
     → Onward n entries c x
-onward-answers n c answered moved e history h =
-    answered ∙ ap (λ next. record { answer = Stepped; collector = next }) (moved history (h ∙ sym e))
+onward-answers n c below answered moved e history h =
+    answered ∙ ap (λ next. record { answer = Stepped; collector = next }) (moved history (h ∙ sym e) ∙ others-move n history c (λ closing. omega arith))
 
 -- ---- the steps
 

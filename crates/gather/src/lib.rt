@@ -26,11 +26,7 @@ pub fn opens(s: Sizes, c: Collector) -> Answered
     requires { ⌜ InPhase 0 s (λ t. t) c ⌝ }
     ensures { λ x. ⌜ Steps 0 s (λ t. t) c x (λ t. t) ⌝ }
 {
-    stepped(Collector {
-        phase: 1,
-        position: 0,
-        closed: c.closed,
-    })
+    stepped(onward(c, 1, 0))
 }
 
 // "Phase 1: snoop flag on for the worker at the position."

@@ -1,9 +1,10 @@
 -- The two outcomes of phase 6, on known tables.
 --     closedTables             the tables after a close
+--     close-asks               what `advance::onward` asks of the collector's record
 --     found-passes             what the search finds passes it
 --     closed-on, freed-on      the collect event where the search finds none, and where it finds a record
 -- Assumes nothing.
-use Prim.Native.Nat.{ℕ, zero, suc, _≤_}
+use Prim.Native.Nat.{ℕ, zero, suc, _≤_, _<_}
 use mathlib.Core.Path.{_≡_, refl, sym, ap, _∙_}
 use mathlib.Core.Bool.{Bool, true, false, cond, _&&_}
 use mathlib.Core.List.{List, [], _∷_, map, zipWith}
@@ -27,8 +28,10 @@ use Rattle.tables.specs.Known.{Known}
 use Rattle.tables.specs.Event.{written, eventOn}
 use Rattle.tables.proofs.RoundTrip.{known-back}
 use Rattle.tables.proofs.Done.{collect-is}
+use Rattle.soundness.proofs.Core.{position-in}
 use Rattle.laws.proofs.Search.{reclaimed-passes}
 use Rattle.laws.proofs.Change.{frees-collector}
+use Rattle.advance.specs.Moved.{Movable}
 use Rattle.reclaim.specs.Lent.{Passes}
 use Rattle.reclaim.specs.Raw.{kept}
 
@@ -63,6 +66,11 @@ closes-written s p = λ j. putHeld (bits-off (p .records .held) j) (putCandidate
 module _ {s : Sizes} {t : Tables} {c : Collector} (known : Known s t c) (phase : c .phase ≡ 6) where
   abbrev p : Pool
   p = poolOf s t c
+
+  -- phase 6 has one position
+  pub close-asks : Movable c
+  unfolding poolOf
+  close-asks = let first : c .position < 1 = position-in (known .tables .sound) 6 phase in (omega arith, omega (arith, first))
 
   pub found-passes : (a : RecordNumber) → 1 ≤ a .0 → a ≡ reclaimed s p → Passes s t c a
   found-passes a some e =

@@ -3,6 +3,7 @@
 //     reclaimed, is_waiting       the search
 //     frees, empties              freeing
 //     closes                      the close
+use advance::onward;
 use advance::stepped;
 use rules::Answer;
 use rules::Answered;
@@ -142,11 +143,7 @@ pub fn reclaims(
     let a = reclaimed(s, used, counts, held, candidates, changed);
     if a.0 == 0 {
         closes(counts, held, candidates);
-        return stepped(Collector {
-            phase: 0,
-            position: 0,
-            closed: std::num::wrapping_add_u16(c.closed, 1),
-        });
+        return stepped(onward(c, 1, 0));
     }
     frees(s, used, counts, candidates, values, a);
     Answered {

@@ -15,6 +15,7 @@ use Rattle.tables.specs.Tables.{Tables, putCounts, putCandidates, putHistory, p
 use Rattle.tables.specs.Lie.{poolOf}
 use Rattle.tables.specs.Counted.{more}
 use Rattle.tables.proofs.Entered.{entryIn}
+use Rattle.advance.proofs.Moved.{others-move}
 use Rattle.count.specs.Lent.{countsOn}
 use Rattle.count.proofs.Entry.{Ready, ready, history-entries}
 use Rattle.count.proofs.Step.{countedIn, counted-on, emptied-on}
@@ -161,7 +162,9 @@ returns c t known phase =
     let counted = c .before .before .before .before .before .before .before .before .before .before .before in
     let at = read counted in
     let worker = at .before .before .wide in
-    let step = c .stepped .ensures ∙ ap (λ (x : Collector). record { answer = Stepped; collector = x }) (c .before .onward .ensures [] refl) in
+    let step =
+    c .stepped .ensures
+    ∙ ap (λ (x : Collector). record { answer = Stepped; collector = x }) (c .before .onward .ensures [] refl ∙ others-move _ _ (start at .args .c) (λ e. omega arith)) in
     emptied-on known phase (worker .ensures) (at .wide2 .ensures) (c .before .before .before .before .before .before .before .if1 .taken)
     ∙ (λ j.
     record {
@@ -193,7 +196,9 @@ returns-2 c t known phase =
     let at = read counted in
     let worker = at .before .before .wide .ensures in
     let many = history-entries known phase worker (at .wide2 .ensures) in
-    let step = c .stepped2 .ensures ∙ ap (λ (x : Collector). record { answer = Stepped; collector = x }) (c .before .onward2 .ensures _ (sym many)) in
+    let step =
+    c .stepped2 .ensures
+    ∙ ap (λ (x : Collector). record { answer = Stepped; collector = x }) (c .before .onward2 .ensures _ (sym many) ∙ others-move _ _ (start at .args .c) (λ e. omega arith)) in
     counted-on known phase worker (at .wide2 .ensures) (c .before .before .if1 .left)
     ∙ (λ j. record { answer = sym step j .answer; collector = sym step j .collector; tables = written counted t (start at .args .c) j })
 

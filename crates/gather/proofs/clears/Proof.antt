@@ -67,7 +67,7 @@ returns c t known e =
     ∙ ap (λ (l : ℕ). set (at .changed .now) l 0) (marked .before .wide3 .ensures ∙ ap (λ (i : ℕ). getD (at .history .now) (i * 2) 0) (read .wide2 .ensures)))
     (subst (λ (n : ℕ). Onward n n (at .c) (c .stepped .result))
     (ap (λ (i : ℕ). getD (at .lengths .now) i 0) (read .before .before .wide .ensures))
-    (onward-answers _ (at .c) (c .stepped .ensures) (c .before .onward .ensures) refl))
+    (onward-answers _ (at .c) (omega arith) (c .stepped .ensures) (c .before .onward .ensures) refl))
 
 pub clears-spec : {M : Type 1} → statement M
 clears-spec =

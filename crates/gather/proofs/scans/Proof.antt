@@ -115,7 +115,7 @@ returns c t known e =
     scans-on known e
     (marked .set-mark .ensures ∙ ap (λ (i : ℕ). set (at .snoops .now) i 0) (marked .before .wide .ensures))
     (scanned .held-by .ensures ∙ ap (λ (part : List ℕ). heldIn part (at .held .now)) (row-here here .0))
-    (onward-answers (at .s .w) (at .c) (c .stepped .ensures) (c .before .onward .ensures)
+    (onward-answers (at .s .w) (at .c) (omega arith) (c .stepped .ensures) (c .before .onward .ensures)
     (ap (λ (i : ℕ). getD (at .lengths .now) i 0) (c .before .before .before .wide3 .ensures)))
 
 pub scans-spec : {M : Type 1} → statement M

@@ -43,7 +43,7 @@ returns c t known e =
     let at = marked .before .before .before .before .before .args in
     snoops-on known e
     (marked .set-mark .ensures ∙ ap (λ (i : ℕ). set (at .snoops .now) i 1) (marked .before .wide .ensures))
-    (onward-answers (at .s .w) (at .c) (c .stepped .ensures) (c .before .onward .ensures)
+    (onward-answers (at .s .w) (at .c) (omega arith) (c .stepped .ensures) (c .before .onward .ensures)
     (ap (λ (i : ℕ). getD (at .lengths .now) i 0) (c .before .before .before .wide2 .ensures)))
 
 pub snoops-spec : {M : Type 1} → statement M

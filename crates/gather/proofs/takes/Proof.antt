@@ -215,7 +215,7 @@ returns c t known e =
           (ap (λ (m : ℕ). m * 2) (copied .before .before .before .wide4 .ensures ∙ history));
       lengths = λ j. set (set ns (worker j) 0) (last j) (history j + log j);
     })
-    (onward-answers (at .s .w) (at .c) (c .stepped .ensures) (c .before .onward .ensures) (λ j. history j + log j))
+    (onward-answers (at .s .w) (at .c) (omega arith) (c .stepped .ensures) (c .before .onward .ensures) (λ j. history j + log j))
 
 pub takes-spec : {M : Type 1} → statement M
 takes-spec =

@@ -1,11 +1,13 @@
 -- `reclaim::reclaims` meets its contract: where the search finds none the step closes the cycle, else it frees what the search finds. Assumes nothing.
-use mathlib.Core.Path.{sym, _∙_}
+use mathlib.Core.Path.{refl, sym, ap, _∙_}
+use mathlib.Core.List.{[]}
 use native.Mathlib.Omega.{arith}
 use borrow.Author.Needs.{needs}
 use Rattle.rules.specs.declared.Answer.the-variants.{Stepped}
 use Rattle.tables.specs.Tables.{Tables, putUsed, putCounts, putHeld, putCandidates, putValues, putChanged}
+use Rattle.advance.proofs.Moved.{closing-moves}
 use Rattle.reclaim.specs.Lent.{reclaimsOn}
-use Rattle.reclaim.proofs.Step.{closed-on, found-passes, freed-on}
+use Rattle.reclaim.proofs.Step.{close-asks, closed-on, found-passes, freed-on}
 use Rattle.reclaim.proofs.reclaims.Statement.{statement}
 use Rattle.reclaim.proofs.reclaims.Tie as tie
 
@@ -15,8 +17,11 @@ reclaimed-requires c κs = search needs
 closes-requires : tie.Need-closes-requires
 closes-requires c κs = search needs
 
-wrapping-add-u16-requires : tie.Need-wrapping-add-u16-requires
-wrapping-add-u16-requires c κs = search needs
+onward-requires : tie.Need-onward-requires
+onward-requires c κs =
+    let searched = c .before .before .before .before .before .before .before .before .before .before in
+    let start = searched .before .before .before .before .before .before .before .before .before .before .before in
+    close-asks (start .pre .1) (start .pre .2)
 
 stepped-requires : tie.Need-stepped-requires
 stepped-requires c κs = search needs
@@ -41,7 +46,7 @@ returns c t known phase =
     let start = searched .before .before .before .before .before .before .before .before .before .before .before .args in
     let closes = c .before .before .before .before .before .before .closes in
     closed-on known phase (search .result) (search .ensures (putValues (start .values .now) t) (start .c) known) (branch .if1 .taken) (c .stepped .result)
-    (c .stepped .ensures ∙ (λ j. record { answer = Stepped; collector = record { phase = 0; position = 0; closed = c .before .wrapping-add-u16 .ensures j } }))
+    (c .stepped .ensures ∙ ap (λ next. record { answer = Stepped; collector = next }) (c .before .onward .ensures [] refl ∙ closing-moves 1 [] (start .c) phase))
     _
     (λ j.
     putHeld (sym (closes .ensures .0) j)
@@ -91,7 +96,7 @@ reclaims-spec =
     (tie.spec
     reclaimed-requires
     closes-requires
-    wrapping-add-u16-requires
+    onward-requires
     stepped-requires
     same-length
     same-length-2

@@ -1,0 +1,3 @@
+-- What the contracts here cite.
+--     Moved     the collector's record after a step
+pub mod Moved
