@@ -1,6 +1,6 @@
 -- The call by its two tests: where each of them refuses, and where neither does.
 --     wrong-shape, not-sound     the first refuses: 1; the second: 2
---     known-many                 neither: the events are done
+--     sound-many, known-many     neither: the events are done
 -- Assumes nothing.
 use Prim.Native.Nat.{ℕ, _≤_, _<_}
 use mathlib.Core.Path.{_≡_, refl, sym, ap, _∙_}
@@ -42,6 +42,10 @@ module _ (s : Sizes) (t : Tables) (c : Collector) (bytes : List ℕ) (step : ℕ
   checked : fits s t ≡ true → manyOn s t c bytes step room ≡ checks (inspected s t c)
   unfolding manyOn shape checks
   checked fit = ap shape fit ∙ ap checks (check-is s t c fit)
+
+  pub sound-many : fits s t ≡ true → isSound s t c ≡ true → manyOn s t c bytes step room ≡ done bytes (ranOn s t c bytes 0 step room)
+  unfolding manyOn shape checks
+  sound-many fit sound = ap shape fit ∙ ap checks sound
 
   pub not-sound : fits s t ≡ true → inspected s t c ≡ false → manyOn s t c bytes step room ≡ refusedMany NotSound t c step room
   unfolding checks
