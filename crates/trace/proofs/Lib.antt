@@ -8,6 +8,9 @@
 --     Sized         a trace behind its sizes field
 --     Whole         a whole trace, by its first field
 --     WholeCase     document 01's whole case, computed by the definitions
+--     Lines         the lines of a run
+--     Promised      what is promised of a whole trace
+--     OneResult     two results of the call that both satisfy its contract are equal
 pub mod Comes
 pub mod Turns
 pub mod Along
@@ -17,3 +20,6 @@ pub mod Rest
 pub mod Sized
 pub mod Whole
 pub mod WholeCase
+pub mod Lines
+pub mod Promised
+pub mod OneResult

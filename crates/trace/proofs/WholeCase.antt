@@ -1,13 +1,17 @@
--- "Whole case, input in hexadecimal", of document 01: its bytes, and the lines that are printed for it, computed by the definitions.
+-- "Whole case, input in hexadecimal", of document 01: its bytes, the lines that are printed for it, and what specs/Promise.antt says of it, computed by the
+-- definitions.
 -- Assumes nothing.
 use Prim.Native.Nat.{ℕ}
 use mathlib.Core.Path.{_≡_, refl}
 use mathlib.Core.Bool.{true}
 use mathlib.Core.List.{List, [], _∷_, _++_}
+use Rattle.rules.specs.declared.Event.the-variants.{Make, Drop, Collect}
 use Rattle.rules.proofs.Starred.{computes}
 use Rattle.trace.specs.declared.Ending.the-variants.{Whole}
 use Rattle.fields.specs.Field.{payloadOf, eventAt, refusals, decide, taken, fieldAt, behindEnd, readAt}
 use Rattle.trace.specs.Replay.{Line, Replayed, goes, replayed}
+use Rattle.trace.specs.Stretch.{stretchOf, stretch}
+use Rattle.trace.specs.Promise.{eventsOf, lineAt, lineFrees}
 
 -- 20 0004 with a step number
 collectAt : ℕ → List ℕ
@@ -33,3 +37,12 @@ printed = refl
 ended : replayed (λ s. true) bytes .ending ≡ Whole 1 1
 unfolding computes collectAt bytes line payloadOf eventAt refusals decide taken fieldAt behindEnd readAt goes replayed
 ended = refl
+
+-- the words of what is promised speak of these events, and of the line that frees record 1
+events : eventsOf bytes ≡ Make 0 0 ∷ Drop 0 0 ∷ Collect ∷ Collect ∷ Collect ∷ Collect ∷ Collect ∷ Collect ∷ Make 0 0 ∷ []
+unfolding computes collectAt bytes payloadOf eventAt refusals decide taken fieldAt behindEnd readAt stretchOf stretch eventsOf
+events = refl
+
+freed : lineFrees (record { 0 = 1 }) Collect (lineAt (replayed (λ s. true) bytes .lines) 6) ≡ true
+unfolding computes collectAt bytes payloadOf eventAt refusals decide taken fieldAt behindEnd readAt goes replayed lineFrees
+freed = refl

@@ -3,7 +3,9 @@
 --     Stretch     events that stand one after another in a trace, done on lent tables
 --     Stand       how a trace stands behind them, of which a part has been read
 --     Traced      a whole trace on lent tables
+--     Promise     the words of what is promised of a whole trace
 pub mod Replay
 pub mod Stretch
 pub mod Stand
 pub mod Traced
+pub mod Promise
