@@ -1,4 +1,5 @@
 -- The arrays before the first field: "sets aside 256 links, all none, before the first field".
+--     atRest             the collector's record of a fresh pool
 --     aside-is-fresh     a fresh pool of any sizes that the program takes lies at their beginnings
 --     aside-known        it is a sound pool
 --     aside-pool         and the pool that they mean
@@ -6,7 +7,7 @@
 use Prim.Native.Nat.{ℕ, zero, suc, _+_, _*_, _≤_}
 use mathlib.Core.Path.{_≡_, refl, sym, ap, _∙_, subst}
 use mathlib.Core.Bool.{true}
-use mathlib.Core.List.{List, [], _∷_}
+use mathlib.Core.List.{List, _∷_}
 use native.Mathlib.Omega.{arith}
 use lib.ListN.{take, replicate}
 use Rattle.rules.specs.declared.Sizes.{Sizes}

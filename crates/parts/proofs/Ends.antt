@@ -3,7 +3,6 @@
 --     part-ends       so it is for every part
 -- Assumes nothing.
 use Prim.Native.Nat.{ℕ, zero, suc, _≤_}
-use mathlib.Core.Path.{_≡_, refl}
 use mathlib.Core.Bool.{Bool, true, false, cond}
 use mathlib.Core.List.{List}
 use native.Mathlib.Omega.{arith}
@@ -21,7 +20,6 @@ use Rattle.trace.specs.declared.Ending.{Ending}
 use Rattle.trace.specs.declared.Ending.the-variants.{Whole, Stopped}
 use Rattle.trace.specs.declared.Stand.{Stand}
 use Rattle.trace.specs.declared.Stand.the-variants as stand
-use Rattle.trace.specs.declared.Stood.{Stood}
 use Rattle.trace.specs.Replay.{Left}
 use Rattle.trace.specs.Stretch.{behind, stretch}
 use Rattle.trace.specs.Stand.{waits, stood}

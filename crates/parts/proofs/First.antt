@@ -1,8 +1,9 @@
 -- What a part answers and leaves, on the arrays, by whether the sizes field has been read.
---     first-waits     fewer bytes than a field may have, and more may come
---     first-stops     what comes first is refused
---     first-sizes     the sizes come first: a fresh pool lies in the arrays, and the rest is a part behind the sizes field
---     whole-later     behind the sizes field
+--     takes-same                 the same of another part
+--     first-waits                fewer bytes than a field may have, and more may come
+--     first-refused, first-large, first-other     what comes first is refused
+--     first-later, first-holds, first-sizes       the sizes come first: a fresh pool lies in the arrays, and the rest is a part behind the sizes field
+--     stage-later, later-holds, whole-later       the sizes field has been read before
 -- Assumes nothing.
 use Prim.Native.Nat.{ℕ, _+_}
 use mathlib.Core.Path.{_≡_, refl, sym, ap, _∙_, subst}
@@ -12,11 +13,10 @@ use native.Mathlib.Omega.{arith}
 use native.Mathlib.Nat.{add-zero}
 use lib.ListN.{length}
 use Rattle.rules.specs.declared.Sizes.{Sizes}
-use Rattle.rules.specs.declared.Event.{Event}
 use Rattle.rules.specs.declared.Refusal.{Refusal}
 use Rattle.rules.specs.declared.Refusal.the-variants.{WrongSize, WrongTag}
 use Rattle.rules.specs.Size.{inRange}
-use Rattle.rules.specs.Pool.{Pool, fresh}
+use Rattle.rules.specs.Pool.{fresh}
 use Rattle.tables.specs.Tables.{Tables}
 use Rattle.tables.specs.Lie.{poolOf}
 use Rattle.tables.specs.Known.{Known}
@@ -37,7 +37,7 @@ use Rattle.trace.proofs.Comes.{readerAt, Comes, a-refusal, the-sizes, an-event,
 use Rattle.parts.specs.declared.Progress.{Progress}
 use Rattle.parts.specs.declared.Part.{Part}
 use Rattle.parts.specs.Part.{Taken, restTaken, stopsAt, firstTaken, partTaken}
-use Rattle.parts.specs.Arrays.{isSmall, front, leftIn, aside, Holds, Later, HoldsAt, Set, Takes}
+use Rattle.parts.specs.Arrays.{isSmall, front, leftIn, Holds, Later, HoldsAt, Set, Takes}
 use Rattle.parts.proofs.Aside.{atRest, aside-known, aside-pool}
 use Rattle.parts.proofs.Rest.{left-later}
 
@@ -47,9 +47,12 @@ pub record SizesRead (s : Sizes) (y : Read) : Type 0 where
   pub range : inRange s ≡ true
   pub reader : y .reader ≡ readerAt Events 0
 
-sizes-read : {bytes : List ℕ} {place step : ℕ} {stage : Stage} (y : Read) → Comes bytes place step stage y → (s : Sizes) → y .field ≡ field.Sizes s → SizesRead s y
+sizes-read : {bytes : List ℕ} {place step : ℕ} {stage : Stage} (y : Read) → Comes bytes place step stage y → (s : Sizes) → y .field ≡ field.Sizes s
+    → SizesRead s y
 sizes-read y (a-refusal why) s reads = absurd (let z : _≡_ {A = ℕ} 0 1 = cc in omega arith)
-sizes-read y (the-sizes other next range lies) s reads = let same : other ≡ s = cc in record { range = subst (λ (s : Sizes). inRange s ≡ true) same range; reader = refl }
+sizes-read y (the-sizes other next range lies) s reads =
+    let same : other ≡ s = cc in
+    record { range = subst (λ (s : Sizes). inRange s ≡ true) same range; reader = refl }
 sizes-read y (an-event e next lies) s reads = absurd (let z : _≡_ {A = ℕ} 0 1 = cc in omega arith)
 sizes-read y (the-end next lies) s reads = absurd (let z : _≡_ {A = ℕ} 0 1 = cc in omega arith)
 sizes-read y nothing s reads = absurd (let z : _≡_ {A = ℕ} 0 1 = cc in omega arith)
@@ -141,7 +144,8 @@ module _ {x : Progress} {t : Tables} (set : Set x t) (last : Bool) (bytes : List
           ∙ ap chosen (sym read)
           ∙ ap (λ (f : Field). chosen (with-field f)) reads
 
-      stops-first : (room : List ℕ) {why : Refusal} {at : ℕ} {part : Part} → part ≡ record { stand = stand.Ended (Stopped why at); next = 0; events = 0; progress = x }
+      stops-first : (room : List ℕ) {why : Refusal} {at : ℕ} {part : Part}
+          → part ≡ record { stand = stand.Ended (Stopped why at); next = 0; events = 0; progress = x }
           → whole ≡ stopsAt why at (x .reader) → Takes whole x room part t room
       stops-first room answered none = subst (λ (z : Part). Takes whole x room z t room) (sym answered) (takes-none room none)
 
@@ -155,7 +159,8 @@ module _ {x : Progress} {t : Tables} (set : Set x t) (last : Bool) (bytes : List
           stops-first room answered
           (first-chosen reads ∙ ap (λ (b : Bool). cond b (restTaken last bytes (y .next) (y .reader) s (fresh s)) (stopsAt WrongSize 0 (x .reader))) large)
 
-      pub first-other : (room : List ℕ) {part : Part} → ((s : Sizes) → y .field ≡ field.Sizes s → ⊥) → ((why : Refusal) (at : ℕ) → y .field ≡ field.Refused why at → ⊥)
+      pub first-other : (room : List ℕ) {part : Part} → ((s : Sizes) → y .field ≡ field.Sizes s → ⊥)
+          → ((why : Refusal) (at : ℕ) → y .field ≡ field.Refused why at → ⊥)
           → part ≡ record { stand = stand.Ended (Stopped WrongTag 0); next = 0; events = 0; progress = x } → Takes whole x room part t room
       first-other room sizes refused answered = stops-first room answered (first-chosen refl ∙ by-field (y .field) sizes refused)
         where

@@ -1,13 +1,14 @@
 -- The pool at the arrays' beginnings.
 --     Small, small              the sizes that the program takes
+--     links-few, registers-few, logs-few     how much room their tables take
 --     Within, within            a pool of these sizes has room in the arrays
 --     counted                   how long a beginning is
 --     back                      the arrays with other tables at their beginnings
 --     front-back, long-back     these lie there then, and the arrays keep their lengths
---     runs-back                 the events of a stretch, done on the pool there
+--     ran-known, runs-back      the events of a stretch, done on the pool there
 -- Assumes nothing.
 use Prim.Native.Nat.{ℕ, _+_, _*_, _≤_}
-use mathlib.Core.Path.{_≡_, refl, sym, ap, _∙_, subst}
+use mathlib.Core.Path.{_≡_, sym, _∙_, subst}
 use mathlib.Core.Bool.{Bool, true, _&&_}
 use mathlib.Core.List.{List, _++_}
 use native.Mathlib.Omega.{arith}
@@ -26,7 +27,7 @@ use Rattle.laws.proofs.Tests.{and-left, and-right}
 use Rattle.laws.proofs.Runs.{run-keeps}
 use Rattle.soundness.proofs.Kept.{event-keeps-sound}
 use Rattle.tables.specs.Tables.{Tables}
-use Rattle.tables.specs.Lie.{room, poolOf, tablesOf}
+use Rattle.tables.specs.Lie.{room, poolOf}
 use Rattle.tables.specs.Known.{Exact, Known}
 use Rattle.tables.proofs.RoundTrip.{sound-known}
 use Rattle.trace.specs.Stretch.{stretch, RanOn, ranOn}
@@ -177,7 +178,8 @@ ran-known {s} {t} {c} known bytes place step room run =
     let sound : Sound s q = run-keeps s (Sound s) (event-keeps-sound s (known .sizes)) (poolOf s t c) (known .tables .sound) events in
     subst (λ (y : RanOn). Known s (y .tables) (y .ran .collector)) run (sound-known s (known .sizes) q sound)
 
-module _ {s : Sizes} {t : Tables} {c : Collector} (h : isSmall s ≡ true) (long : Long t) (known : Known s (front s t) c) (bytes : List ℕ) (place step : ℕ) (room : List ℕ) where
+module _ {s : Sizes} {t : Tables} {c : Collector} (h : isSmall s ≡ true) (long : Long t) (known : Known s (front s t) c)
+    (bytes : List ℕ) (place step : ℕ) (room : List ℕ) where
   pub runs-back : {x : RanOn} → ranOn s (front s t) c bytes place step room ≡ x
       → Runs s (ranOn s (front s t) c bytes place step room) (x .ran) (back s t (x .tables)) (x .answers)
   runs-back {x} run =

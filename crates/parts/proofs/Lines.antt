@@ -3,7 +3,7 @@
 --     part-lines      of a part
 --     starts-same     a buffer starts with the same text
 -- Assumes nothing.
-use Prim.Native.Nat.{ℕ, zero, suc, _+_, _*_, _≤_}
+use Prim.Native.Nat.{ℕ, suc, _+_, _*_, _≤_}
 use mathlib.Core.Path.{_≡_, refl, sym, ap, _∙_, subst}
 use mathlib.Core.List.{List, [], _∷_, _++_}
 use native.Mathlib.Omega.{arith}
@@ -32,7 +32,8 @@ lines-text step (x ∷ xs) (a ∷ b ∷ room) enough =
     ap (λ (n : ℕ). linesText step (take n (number x ∷ value x ∷ rest))) two
     ∙ ap (λ (text : List ℕ). lineText (suc step) (number x) (value x) ++ text) (lines-text (suc step) xs room (omega arith))
 
-module _ {taken : Taken} {x : Progress} {room filled : List ℕ} {part : Part} {t : Tables} (takes : Takes taken x room part t filled) (enough : part .events * 2 ≤ length room) where
+module _ {taken : Taken} {x : Progress} {room filled : List ℕ} {part : Part} {t : Tables}
+    (takes : Takes taken x room part t filled) (enough : part .events * 2 ≤ length room) where
   count : part .events ≡ length (takes .numbered .0)
   unfolding linesBehind
   count = takes .events ∙ ap length (takes .numbered .1) ∙ as-many (x .reader .step) (takes .numbered .0)

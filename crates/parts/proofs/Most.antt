@@ -49,13 +49,11 @@ module _ (last : Bool) (bytes : List ℕ) where
             left = stands s q;
           }
 
-      none : Taken
-      none = record { lines = []; stood = standOn last bytes place reader p; left = stands s p }
-
       few : Most place events
       few = let lies = stretched bytes place (reader .step) inside in omega (arith, lies .least, lies .inside, length-lines s p (reader .step) (x .events))
 
-      by-stage : (stage : Stage) → Most place (elim stage [ First ↦ events | Events ↦ events | Ended ↦ none ])
+      by-stage : (stage : Stage)
+          → Most place (elim stage [ First ↦ events | Events ↦ events | Ended ↦ record { lines = []; stood = standOn last bytes place reader p; left = stands s p } ])
       by-stage First = few
       by-stage Events = few
       by-stage Ended = omega arith

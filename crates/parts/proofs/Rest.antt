@@ -1,9 +1,10 @@
 -- What a part behind the sizes field answers and leaves, on the arrays.
---     Stays, stood-stays      how a trace stands behind some events leaves the step number, and the sizes field read
---     stretch-steps           the step number of a stretch's last event
---     rest-events, rest-ended what a part is, by what may come
---     events-taken            the events are done
---     ended-taken             the end field has been read before
+--     Stays, stood-stays          how a trace stands behind some events: the step number is the same, and the sizes field has been read
+--     stretch-steps               the step number of a stretch's last event
+--     rest-events, rest-ended     what a part is, by what may come
+--     left-later                  behind the sizes field a pool lies in the arrays
+--     events-taken                the events are done
+--     ended-taken                 the end field has been read before
 -- Assumes nothing.
 use Prim.Native.Nat.{ℕ, zero, suc, _+_}
 use mathlib.Core.Path.{_≡_, refl, sym, ap, _∙_, subst}
@@ -21,7 +22,6 @@ use Rattle.laws.proofs.Runs.{run-keeps}
 use Rattle.soundness.proofs.Kept.{event-keeps-sound}
 use Rattle.tables.specs.Tables.{Tables}
 use Rattle.tables.specs.Lie.{marks, poolOf, tablesOf}
-use Rattle.tables.specs.Known.{Known}
 use Rattle.tables.proofs.Marks.{marks-bits}
 use Rattle.tables.proofs.RoundTrip.{pool-of-tables, known-back}
 use Rattle.fields.specs.declared.Stage.{Stage}
@@ -41,7 +41,7 @@ use Rattle.parts.specs.declared.Progress.{Progress}
 use Rattle.parts.specs.declared.Part.{Part}
 use Rattle.parts.specs.Part.{Taken, standOn, restTaken}
 use Rattle.parts.specs.Arrays as arrays
-use Rattle.parts.specs.Arrays.{front, leftIn, Long, Holds, Later, HoldsAt, Set, Takes}
+use Rattle.parts.specs.Arrays.{front, leftIn, Long, Holds, Later, HoldsAt, Takes}
 use Rattle.parts.proofs.Front.{ran-known}
 use Rattle.parts.proofs.Between.{looks}
 

@@ -5,17 +5,16 @@
 --     Long            the arrays' lengths
 --     aside           the arrays before the first field
 --     Runs            the events of a stretch, done on them
---     Set             the arrays between two parts: before the first field all 0, then a sound pool
---     Takes           what a part answers and leaves, on the arrays
+--     Holds, Later, Set     the arrays between two parts: before the first field all 0, then a sound pool
+--     Numbered, Takes       what a part answers and leaves, on the arrays
 -- Assumes nothing.
-use Prim.Native.Nat.{ℕ, _+_, _*_, _≤_}
+use Prim.Native.Nat.{ℕ, _+_, _*_}
 use mathlib.Core.Path.{_≡_}
 use mathlib.Core.Bool.{Bool, true, _&&_}
 use mathlib.Core.List.{List}
 use lib.Dec.{leb}
 use lib.ListN.{length, take, replicate}
 use Rattle.rules.specs.declared.Sizes.{Sizes}
-use Rattle.rules.specs.declared.Collector.{Collector}
 use Rattle.rules.specs.declared.Answer.{Answer}
 use Rattle.rules.specs.Size.{links}
 use Rattle.fields.specs.declared.Stage.{Stage}

@@ -11,7 +11,6 @@ use Rattle.tables.specs.Tables.{Tables}
 use Rattle.text.specs.Text.{StartsWith}
 use Rattle.trace.specs.declared.Ending.{Ending}
 use Rattle.trace.specs.declared.Ending.the-variants.{Whole, Stopped}
-use Rattle.parts.specs.declared.Progress.{Progress}
 use Rattle.parts.specs.declared.Part.{Part}
 use Rattle.parts.specs.Part.{Taken}
 use Rattle.parts.specs.Arrays.{leftIn, Set}

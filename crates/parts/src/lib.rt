@@ -2,6 +2,7 @@
 // `replay`.
 //     Progress       what is kept between two parts, beside the arrays
 //     Part           what a part answers
+//     PartText       the same, and how long the text of its lines is
 //     take_part      a part, which begins where the one before left off
 //     part_text      the same, and the text of its lines
 //     put_ending     the text of the last line
@@ -26,19 +27,18 @@ use trace::Stand;
 use trace::run_events;
 use trace::stand_behind;
 ghost use mathlib.Core.Path.{_≡_};
-ghost use Rattle.tables.specs.Tables.{lent};
 ghost use mathlib.Core.Bool.{true};
-ghost use Rattle.tables.specs.Known.{Known};
-ghost use Rattle.parts.specs.Arrays.{isSmall, front, leftIn, Long, Runs, Holds, Later, Set, Takes};
-ghost use Rattle.trace.specs.Stretch.{ranOn};
-ghost use Rattle.trace.specs.Replay.{stands};
-ghost use Rattle.tables.specs.Lie.{poolOf};
-ghost use Rattle.parts.specs.Part.{restTaken, partTaken, movedEnding};
-ghost use Rattle.parts.specs.Printed.{endingPrinted};
-ghost use Rattle.parts.specs.Buffer.{HasRoom, TextOf, PlaceFits};
-ghost use Rattle.text.specs.Text.{StartsWith};
 ghost use Prim.Native.Nat.{_≤_};
 ghost use lib.ListN.{length};
+ghost use Rattle.tables.specs.Tables.{lent};
+ghost use Rattle.tables.specs.Lie.{poolOf};
+ghost use Rattle.tables.specs.Known.{Known};
+ghost use Rattle.text.specs.Text.{StartsWith};
+ghost use Rattle.trace.specs.Stretch.{ranOn};
+ghost use Rattle.parts.specs.Part.{restTaken, partTaken, movedEnding};
+ghost use Rattle.parts.specs.Arrays.{isSmall, front, leftIn, Long, Runs, Holds, Later, Set, Takes};
+ghost use Rattle.parts.specs.Printed.{endingPrinted};
+ghost use Rattle.parts.specs.Buffer.{HasRoom, TextOf, PlaceFits};
 
 // What may come next, the pool's sizes and the collector's record. The last two mean nothing before the first field.
 pub struct Progress {

@@ -1,9 +1,7 @@
 -- `parts::part_text` meets its contract: the answers of a part have room, since an event has at least 7 bytes, and their text is that of its lines. Assumes nothing.
-use Prim.Native.Nat.{ℕ, _+_, _*_, _≤_}
-use mathlib.Core.Path.{_≡_, sym, ap, _∙_}
-use mathlib.Core.List.{List}
+use Prim.Native.Nat.{_*_, _≤_}
+use mathlib.Core.Path.{sym}
 use native.Mathlib.Omega.{arith}
-use borrow.Author.Needs.{needs}
 use lib.ListN.{length}
 use Rattle.tables.specs.Tables.{Tables, lent}
 use Rattle.parts.specs.Arrays.{isSmall, leftIn}

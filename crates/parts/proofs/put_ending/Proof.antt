@@ -1,13 +1,12 @@
 -- `parts::put_ending` meets its contract, by the two last lines of `text`. Assumes nothing.
 use Prim.Native.Nat.{ℕ, _+_}
-use mathlib.Core.Path.{_≡_, sym, ap, _∙_}
+use mathlib.Core.Path.{sym, ap, _∙_}
 use native.Mathlib.Omega.{arith}
 use borrow.Author.Needs.{needs}
 use Rattle.trace.specs.declared.Ending.{Ending}
 use Rattle.text.specs.Text.{refusedText}
 use Rattle.parts.specs.Part.{movedEnding}
 use Rattle.parts.specs.Printed.{endingPrinted}
-use Rattle.parts.specs.Buffer.{PlaceFits}
 use Rattle.parts.proofs.Lines.{starts-same}
 use Rattle.parts.proofs.put_ending.Statement.{statement}
 use Rattle.parts.proofs.put_ending.Tie as tie

@@ -1,5 +1,5 @@
 -- `parts::run_front` meets its contract: what is lent lies within the arrays, and what comes back is put at their beginnings. Assumes nothing.
-use mathlib.Core.Path.{_≡_, sym, _∙_}
+use mathlib.Core.Path.{sym, _∙_}
 use Prim.Native.Nat.{_+_, _*_}
 use native.Mathlib.Omega.{arith}
 use borrow.Author.Needs.{needs}

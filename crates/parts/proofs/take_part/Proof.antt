@@ -7,7 +7,6 @@ use native.Mathlib.Omega.{arith}
 use borrow.Author.Needs.{needs}
 use borrow.Author.Tests.{not-true, not-false}
 use Rattle.fields.specs.declared.Stage.the-variants.{First}
-use Rattle.tables.specs.Tables.{Tables, lent}
 use Rattle.trace.specs.Stand.{waits}
 use Rattle.trace.proofs.Behind.{waits-are}
 use Rattle.parts.specs.Arrays.{isSmall}

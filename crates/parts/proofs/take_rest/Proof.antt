@@ -7,8 +7,7 @@ use native.Mathlib.Omega.{arith}
 use borrow.Author.Needs.{needs}
 use Rattle.fields.specs.declared.Stage.the-variants.{Ended}
 use Rattle.tables.specs.Tables.{Tables, lent}
-use Rattle.trace.specs.Stretch.{ranOn}
-use Rattle.parts.specs.Arrays.{front, Runs}
+use Rattle.parts.specs.Arrays.{front}
 use Rattle.parts.proofs.Front.{small, Within, within, counted}
 use Rattle.parts.proofs.Rest.{events-taken, ended-taken}
 use Rattle.parts.proofs.take_rest.Statement.{statement}

@@ -1,0 +1,90 @@
+-- A turn of the program.
+--     Ready           before a turn: the arrays, the buffers' lengths, what is left of the part before, and how far the trace has been read
+--     ready-first     before the first
+--     part-waiting, part-place     where a part waits, and where it ends
+--     place-fits      the place in the trace has 64 bits
+-- Assumes nothing.
+use Prim.Native.Nat.{ℕ, _+_, _*_, _≤_, _<_}
+use mathlib.Core.Path.{_≡_, refl, ap, _∙_, subst}
+use mathlib.Core.Bool.{Bool}
+use mathlib.Core.List.{List}
+use native.Mathlib.Omega.{arith}
+use lib.ListN.{length, replicate, length-replicate}
+use Rattle.fields.specs.declared.Stage.the-variants.{First}
+use Rattle.tables.specs.Tables.{Tables}
+use Rattle.trace.specs.declared.Ending.{Ending}
+use Rattle.trace.specs.declared.Ending.the-variants.{Whole, Stopped}
+use Rattle.trace.specs.declared.Stand.the-variants as stand
+use Rattle.trace.specs.declared.Stood.{Stood}
+use Rattle.parts.specs.declared.Progress.{Progress}
+use Rattle.parts.specs.declared.Part.{Part}
+use Rattle.parts.specs.Part.{partTaken}
+use Rattle.parts.specs.Arrays.{isSmall, leftIn, Long, aside, Set}
+use Rattle.parts.specs.Buffer.{TextOf, PlaceFits}
+use Rattle.parts.proofs.Between.{arrays-between, few-left, part-waits}
+use Rattle.parts.proofs.Ends.{PlaceBy, EndsBy, part-ends}
+
+-- a turn reads at most 16384 bytes, so that the place in the trace has 64 bits
+pub record Ready (x : Progress) (t : Tables) (bytes numbers lines : List ℕ) (base left turns : ℕ) : Type 0 where
+  pub set : Set x t
+  pub input : length bytes ≡ 16384
+  pub answers : length numbers ≡ 4684
+  pub text : length lines ≡ 56272
+  pub few : left < 13
+  pub near : base + turns * 16384 ≤ 18014398509481984
+
+-- the arrays before the first field are as long as they are to be
+aside-long : Long aside
+unfolding aside
+aside-long =
+    record {
+      used = length-replicate {A = ℕ} 64 0;
+      counts = length-replicate {A = ℕ} 64 0;
+      held = length-replicate {A = ℕ} 64 0;
+      candidates = length-replicate {A = ℕ} 64 0;
+      makers = length-replicate {A = ℕ} 64 0;
+      values = length-replicate {A = ℕ} 256 0;
+      changed = length-replicate {A = ℕ} 256 0;
+      registers = length-replicate {A = ℕ} 32 0;
+      snoops = length-replicate {A = ℕ} 4 0;
+      logs = length-replicate {A = ℕ} 2048 0;
+      history = length-replicate {A = ℕ} 512 0;
+      lengths = length-replicate {A = ℕ} 5 0;
+    }
+
+abbrev pub begins : Progress
+begins =
+    record {
+      reader = record { stage = First; step = 0 };
+      sizes = record { n = 0; k = 0; w = 0; r = 0 };
+      collector = record { phase = 0; position = 0; closed = 0 };
+    }
+
+pub ready-first : Ready begins aside (replicate 16384 0) (replicate 4684 0) (replicate 56272 0) 0 0 1099511627776
+ready-first =
+    record {
+      set = record { long = aside-long; holds = (refl, refl) };
+      input = length-replicate {A = ℕ} 16384 0;
+      answers = length-replicate {A = ℕ} 4684 0;
+      text = length-replicate {A = ℕ} 56272 0;
+      few = omega arith;
+      near = omega arith;
+    }
+
+module _ (x : Progress) (t : Tables) (last : Bool) (bytes : List ℕ) {part : Part} {size : ℕ} {after : Tables} {text : List ℕ}
+    (did : TextOf (partTaken isSmall last bytes (x .reader) (leftIn x t)) part size after text) where
+  pub part-waiting : part .stand ≡ stand.Waits → (part .next ≤ length bytes) × (length bytes < part .next + 13)
+  part-waiting waiting =
+      let w = part-waits last bytes isSmall (x .reader) (leftIn x t) (arrays-between x t) (ap (λ (z : Stood). z .stand) (did .stood) ∙ waiting) in (
+        subst (λ (z : Stood). z .next ≤ length bytes) (did .stood) (w .inside),
+        subst (λ (z : Stood). length bytes < z .next + 13) (did .stood) (few-left w),
+      )
+
+  pub part-place : {ending : Ending} → part .stand ≡ stand.Ended ending → PlaceBy (length bytes) ending
+  part-place ends =
+      subst (EndsBy (length bytes)) (ap (λ (z : Stood). z .stand) (did .stood) ∙ ends)
+      (part-ends last bytes isSmall (x .reader) (leftIn x t) (arrays-between x t))
+
+pub place-fits : (base n : ℕ) (ending : Ending) → base ≤ 18014398509481984 → n ≤ 16384 → PlaceBy n ending → PlaceFits base ending
+place-fits base n (Whole free closed) near few inside = tt
+place-fits base n (Stopped why place) near few inside = omega arith

@@ -1,0 +1,3 @@
+-- What the program's own functions say.
+--     Input     the bytes that have been read
+pub mod Input

@@ -1,0 +1,132 @@
+// `replay`: reads a trace from standard input to its end and prints document 01's lines, in constant memory.
+//     main          the arrays, and a turn for each read
+//     read_more     a read, behind what is left
+//     keep_rest     what is left of a part becomes the beginning of the next one
+//     print         a text on standard output
+// What is printed for the bytes that were read is `printed` of parts/specs/Printed.antt, a turn for each piece: what `part_text` puts into the buffer, and behind the
+// last part what `put_ending` does. docs/DECISIONS.md says how far a theorem reaches here.
+use fields::Reader;
+use fields::Stage;
+use libc::STDIN_FILENO;
+use libc::STDOUT_FILENO;
+use parts::Progress;
+use parts::part_text;
+use parts::put_ending;
+use rules::Collector;
+use rules::Sizes;
+use trace::Stand;
+ghost use Prim.Native.Nat.{_≤_};
+ghost use lib.ListN.{length};
+ghost use Rattle.replay.specs.Input.{Reads, Keeps};
+
+// Reads once, behind the `left` bytes that are left, and answers how many bytes there are now: no more where the input has ended, or a read fails.
+fn read_more(input: &mut [u8], left: usize) -> usize
+    requires { ⌜ left ≤ length (now input) ⌝ }
+    ensures { λ n. ⌜ Reads (now (input .entry)) left n (now (input .exit)) ⌝ }
+{
+    let got = libc::read(STDIN_FILENO, &mut input[left..]);
+    left + io::count(got, &input[left..])
+}
+
+// The bytes from one place up to another move to the front.
+fn keep_rest(input: &mut [u8], from: usize, to: usize)
+    requires { ⌜ from ≤ to ⌝ }
+    requires { ⌜ to ≤ length (now input) ⌝ }
+    ensures { λ _. ⌜ Keeps (now (input .entry)) from to (now (input .exit)) ⌝ }
+{
+    let size = to - from;
+    let mut i = 0;
+    while i < size {
+        input[i] = input[from + i];
+        i += 1;
+    }
+}
+
+// A write that fails is said on standard error, and no line is made up.
+fn print(text: &[u8]) -> bool {
+    let is_written = io::write_all(STDOUT_FILENO, text);
+    if !is_written {
+        os::fail(b"replay: the lines can't be written");
+    }
+    is_written
+}
+
+// A proved loop has to end, and nothing says that an input does. So the turns are counted down, from a number that no run uses up; the last turn is for the last
+// part. Behind the last byte of a trace nothing is waited for, so that the last part ends the trace.
+fn main() {
+    let mut used = [0u16; 64];
+    let mut counts = [0u16; 64];
+    let mut held = [0u16; 64];
+    let mut candidates = [0u16; 64];
+    let mut makers = [0u16; 64];
+    let mut values = [0u16; 256];
+    let mut changed = [0u16; 256];
+    let mut registers = [0u16; 32];
+    let mut snoops = [0u16; 4];
+    let mut logs = [0u16; 2048];
+    let mut history = [0u16; 512];
+    let mut lengths = [0u16; 5];
+    let mut input = [0u8; 16384];
+    let mut answers = [0u16; 4684];
+    let mut text = [0u8; 56272];
+    let mut progress = Progress {
+        reader: Reader {
+            stage: Stage::First,
+            step: 0,
+        },
+        sizes: Sizes {
+            n: 0,
+            k: 0,
+            w: 0,
+            r: 0,
+        },
+        collector: Collector {
+            phase: 0,
+            position: 0,
+            closed: 0,
+        },
+    };
+    let mut base: usize = 0;
+    let mut left: usize = 0;
+    let mut turns = 1099511627776u64;
+    while turns > 0 {
+        turns -= 1;
+        let n = read_more(&mut input, left);
+        let last = (n == left) | (turns == 0);
+        let taken = part_text(
+            &mut used,
+            &mut counts,
+            &mut held,
+            &mut candidates,
+            &mut makers,
+            &mut values,
+            &mut changed,
+            &mut registers,
+            &mut snoops,
+            &mut logs,
+            &mut history,
+            &mut lengths,
+            progress,
+            &input[..n],
+            last,
+            &mut answers,
+            &mut text,
+        );
+        let size = taken.size;
+        if !print(&text[..size]) {
+            return;
+        }
+        let part = taken.part;
+        let stand = part.stand;
+        if let Stand::Ended(ending) = stand {
+            let end = put_ending(&mut text, ending, base);
+            print(&text[..end]);
+            return;
+        }
+        let next = part.next;
+        keep_rest(&mut input, next, n);
+        base += next;
+        left = n - next;
+        progress = part.progress;
+    }
+}
