@@ -10,7 +10,6 @@
 //! The program
 //! - `trace`      the fields of a trace, and the order of a field's refusals
 //! - `replay`     a whole trace: what is printed
-//! - `text`       the text form of a trace
 //! - `row`        a trace as a row that the proved rules compute
 //!
 //! The checks
@@ -42,6 +41,5 @@ pub mod replay;
 pub mod row;
 pub mod sound;
 pub mod tally;
-pub mod text;
 pub mod trace;
 pub mod worker;

@@ -6,7 +6,7 @@ use crate::habit::Habit;
 use crate::pool::{Pool, Record, Sizes};
 use crate::random::Random;
 use crate::reach::would_close_a_loop;
-use crate::trace::{Field, LARGEST};
+use crate::trace::{Field, Kind, LARGEST};
 
 pub struct Made {
     pub trace: Vec<u8>,
@@ -18,7 +18,17 @@ pub fn make(seed: u64) -> Made {
     let mut random = Random::new(seed);
     let sizes = choose_sizes(&mut random);
     let events = 20 + random.below(if sizes.n > 16 { 1000 } else { 500 });
-    let mut maker = Maker::new(sizes, random);
+    made(Maker::new(sizes, random), events)
+}
+
+/// The same with so many events, or a few more.
+pub fn make_long(seed: u64, events: usize) -> Made {
+    let mut random = Random::new(seed);
+    let sizes = choose_sizes(&mut random);
+    made(Maker::new(sizes, random), events)
+}
+
+fn made(mut maker: Maker, events: usize) -> Made {
     maker.work(events);
     if maker.random.percent(50) {
         maker.abandon();
@@ -30,6 +40,24 @@ pub fn make(seed: u64) -> Made {
         None => maker.fields.iter().flat_map(Field::bytes).collect(),
     };
     Made { trace, damage }
+}
+
+/// A whole trace in which a field of this kind, an event or the end, begins at this offset; the
+/// offset is 1000 or more.
+pub fn make_with_field_at(seed: u64, kind: Kind, offset: usize) -> Vec<u8> {
+    let mut random = Random::new(seed);
+    let sizes = choose_sizes(&mut random);
+    let mut maker = Maker::new(sizes, random);
+    while maker.bytes + 600 < offset {
+        maker.work(1);
+    }
+    maker.fill_up_to(offset);
+    if let Some(event) = kind.event(&vec![0; kind.length() - 4]) {
+        maker.add(event);
+        maker.work(100);
+    }
+    maker.end();
+    maker.fields.iter().flat_map(Field::bytes).collect()
 }
 
 /// Mostly small, for then the same records meet again and again; some in between, some at the
@@ -60,6 +88,8 @@ struct Maker {
     /// The pool as the events so far leave it: workers look at their registers.
     pool: Pool,
     fields: Vec<Field>,
+    /// How many bytes the fields take.
+    bytes: usize,
     steps: u32,
     /// What each worker has still to do of its plan, the next event last.
     plans: Vec<Vec<Event>>,
@@ -74,6 +104,7 @@ impl Maker {
             random,
             pool: Pool::fresh(sizes),
             fields: vec![Field::Sizes(sizes)],
+            bytes: Field::Sizes(sizes).bytes().len(),
             steps: 0,
             plans: vec![Vec::new(); usize::from(sizes.w)],
         }
@@ -82,7 +113,20 @@ impl Maker {
     fn add(&mut self, event: Event) {
         self.steps += 1;
         happen(&mut self.pool, event);
-        self.fields.push(Field::Event { step: self.steps, event });
+        let field = Field::Event { step: self.steps, event };
+        self.bytes += field.bytes().len();
+        self.fields.push(field);
+    }
+
+    /// Makes, of 9 bytes each, and then collector steps, of 7, until the next field begins at the
+    /// offset: there are 48 bytes to fill or more, and every such number is a sum of these.
+    fn fill_up_to(&mut self, offset: usize) {
+        while !(offset - self.bytes).is_multiple_of(7) {
+            self.add(Event::Make { w: 0, r: 0 });
+        }
+        while self.bytes < offset {
+            self.add(Event::Collect);
+        }
     }
 
     /// Stretches of events. In each the collector has another rate, from never to always, and the

@@ -83,7 +83,7 @@ fn one_event(
 #[cfg(test)]
 mod tests {
     use super::*;
-    use crate::text;
+    use crate::pool::Sizes;
 
     fn printed(trace: &[u8]) -> String {
         let mut out = Vec::new();
@@ -95,8 +95,13 @@ mod tests {
     /// whole fields before are replayed, and the offset is that of the field cut or missing.
     #[test]
     fn a_trace_cut_anywhere_is_refused_9() {
-        let text = "sizes 2 1 1 1\nmake 0 0\nstore 0 0 0 0\ndrop 0 0\ntimes 8 collect\nend";
-        let whole = text::write(text).unwrap();
+        let (w, r) = (0, 0);
+        let worker = [Event::Make { w, r }, Event::Store { w, q: 0, f: 0, r }, Event::Drop { w, r }];
+        let events = worker.into_iter().chain([Event::Collect; 8]);
+        let events = (1..).zip(events).map(|(step, event)| Field::Event { step, event });
+        let sizes = Field::Sizes(Sizes { n: 2, k: 1, w: 1, r: 1 });
+        let fields = [sizes].into_iter().chain(events).chain([Field::End { count: 11 }]);
+        let whole: Vec<u8> = fields.flat_map(|field| field.bytes()).collect();
         let lines: Vec<String> = printed(&whole).lines().map(String::from).collect();
         let starts: Vec<usize> = [0, 11, 20, 31].into_iter().chain((0..9).map(|n| 40 + 7 * n)).collect();
         for length in 0..whole.len() {

@@ -8,21 +8,49 @@ use std::collections::{BTreeMap, BTreeSet};
 
 use crate::pool::{Entry, Link, Pool, Record};
 
+pub const PHASE_AND_POSITION: &str = "phase 0..6, the position in its range";
+pub const HISTORY_BY_PHASE: &str = "history empty in 0, 1, 6 and not empty in 3, 5";
+pub const RECORD_NUMBERS: &str = "record numbers in registers, links and entries 0..N";
+pub const LINK_NUMBERS: &str = "link numbers in entries below S";
+pub const MAKERS: &str = "makers 0..W";
+pub const LIST_LENGTHS: &str = "list lengths at most S";
+pub const HISTORY_WITHOUT_REPEATS: &str = "no link twice in the history";
+pub const MARKS_AND_ENTRIES: &str = "a marked link stands exactly once among the entries, another nowhere";
+pub const COUNTS: &str = "each record's count is the number of links counted for it";
+
+/// All of these, in the document's order.
+pub const CLAUSES: [&str; 9] = [
+    PHASE_AND_POSITION,
+    HISTORY_BY_PHASE,
+    RECORD_NUMBERS,
+    LINK_NUMBERS,
+    MAKERS,
+    LIST_LENGTHS,
+    HISTORY_WITHOUT_REPEATS,
+    MARKS_AND_ENTRIES,
+    COUNTS,
+];
+
+/// The clauses that do not hold, in words, in the document's order.
+pub fn broken(pool: &Pool) -> Vec<&'static str> {
+    let holds = [
+        phase_and_position(pool),
+        history_by_phase(pool),
+        record_numbers(pool),
+        link_numbers(pool),
+        makers(pool),
+        list_lengths(pool),
+        history_without_repeats(pool),
+        marks_and_entries(pool),
+        counts(pool),
+    ];
+    CLAUSES.into_iter().zip(holds).filter(|(_, holds)| !holds).map(|(clause, _)| clause).collect()
+}
+
 /// The first clause that does not hold, in words.
 pub fn sound(pool: &Pool) -> Result<(), String> {
-    let clauses: [(bool, &str); 9] = [
-        (phase_and_position(pool), "phase 0..6, the position in its range"),
-        (history_by_phase(pool), "history empty in 0, 1, 6 and not empty in 3, 5"),
-        (record_numbers(pool), "record numbers in registers, links and entries 0..N"),
-        (link_numbers(pool), "link numbers in entries below S"),
-        (makers(pool), "makers 0..W"),
-        (list_lengths(pool), "list lengths at most S"),
-        (history_without_repeats(pool), "no link twice in the history"),
-        (marks_and_entries(pool), "a marked link stands exactly once among the entries, another nowhere"),
-        (counts(pool), "each record's count is the number of links counted for it"),
-    ];
-    match clauses.into_iter().find(|(holds, _)| !holds) {
-        Some((_, clause)) => Err(format!("the pool is not sound: {clause}")),
+    match broken(pool).first() {
+        Some(clause) => Err(format!("the pool is not sound: {clause}")),
         None => Ok(()),
     }
 }
@@ -62,10 +90,16 @@ fn record_numbers(pool: &Pool) -> bool {
         && entries(pool).all(|entry| entry.old.is_none_or(|old| is_one(&old)))
 }
 
-/// "link numbers in entries below S": the record is there and has that link.
+/// A link is there: its record is, and has that link.
+fn is_link(pool: &Pool, link: &Link) -> bool {
+    (1..=pool.sizes.n).contains(&link.of.0) && link.f < usize::from(pool.sizes.k)
+}
+
+/// "link numbers in entries below S." A value or a mark of a link that is not there has no place in
+/// the tables either.
 fn link_numbers(pool: &Pool) -> bool {
-    let is_one = |link: &Link| (1..=pool.sizes.n).contains(&link.of.0) && link.f < usize::from(pool.sizes.k);
-    entries(pool).all(|entry| is_one(&entry.link)) && pool.values.keys().chain(&pool.changed).all(is_one)
+    entries(pool).all(|entry| is_link(pool, &entry.link))
+        && pool.values.keys().chain(&pool.changed).all(|link| is_link(pool, link))
 }
 
 /// "makers 0..W": a maker is a worker + 1, or 0.
@@ -87,7 +121,7 @@ fn history_without_repeats(pool: &Pool) -> bool {
 
 /// "a link whose mark is on stands exactly once among all logs together with the history not yet
 /// cleared (all of it in phase 2, from the position on in phase 3, none otherwise); a link whose
-/// mark is off stands nowhere there."
+/// mark is off stands nowhere there." Of an entry whose link is not there it says nothing.
 fn marks_and_entries(pool: &Pool) -> bool {
     let uncleared = match pool.phase {
         2 => &pool.history[..],
@@ -95,13 +129,20 @@ fn marks_and_entries(pool: &Pool) -> bool {
         _ => &[],
     };
     let logged = pool.workers.iter().flat_map(|worker| &worker.log);
-    let standing: Vec<Link> = logged.chain(uncleared).map(|entry| entry.link).collect();
+    let links = logged.chain(uncleared).map(|entry| entry.link);
+    let standing: Vec<Link> = links.filter(|link| is_link(pool, link)).collect();
     let different: BTreeSet<Link> = standing.iter().copied().collect();
     different.len() == standing.len() && different == pool.changed
 }
 
 /// "each record's count is the number of links counted for it."
 fn counts(pool: &Pool) -> bool {
+    tallies_are_the_counts(pool, counted_for(pool).into_iter())
+}
+
+/// The records that links count for, each as often as a link does. "A link counts for the old value
+/// of its history entry while that entry is not yet counted, else for its view value."
+pub fn counted_for(pool: &Pool) -> Vec<Record> {
     let logged = logged_values(pool);
     let uncounted = uncounted_values(pool);
     let counted_for = |link: Link| -> Option<Record> {
@@ -113,7 +154,7 @@ fn counts(pool: &Pool) -> bool {
             pool.values.get(&link).copied()
         }
     };
-    tallies_are_the_counts(pool, pool.sizes.links().filter_map(counted_for))
+    pool.sizes.links().filter_map(counted_for).collect()
 }
 
 /// The old values of history entries "not yet counted (all in phases 2 to 4, from the position on

@@ -1,5 +1,8 @@
 //! `second`            replays the trace on standard input
 //! `second --check`    the same, and holds every event to document 01 and the tender
+//! `second --row NAME MOST`
+//!                     turns the trace on standard input into a row that the proved rules compute;
+//!                     into nothing where it is refused or has more events than MOST
 //! `second --many FOLDER FIRST COUNT [FIRST COUNT ..]`
 //!                     makes and checks COUNT traces from the seed FIRST on, says what was
 //!                     reached, and keeps a trace that fails in the folder
@@ -8,12 +11,13 @@
 //! never reached or if reading or writing failed; with 2 if called otherwise.
 
 use std::io::{self, BufWriter, Read, Write};
-use std::path::{Path, PathBuf};
+use std::path::Path;
 use std::process::ExitCode;
 
 use second::check::Check;
 use second::many::{many, Failure};
 use second::replay::{replay, Ending};
+use second::row::row;
 use second::tally::Tally;
 
 fn main() -> ExitCode {
@@ -22,6 +26,10 @@ fn main() -> ExitCode {
     let done = match words[..] {
         [] => replay_input(false),
         ["--check"] => replay_input(true),
+        ["--row", name, most] => match most.parse() {
+            Ok(most) => row_of_input(name, most),
+            Err(_) => return usage(),
+        },
         ["--many", folder, ref seeds @ ..] => match ranges(seeds) {
             Some(ranges) => check_many(Path::new(folder), &ranges),
             None => return usage(),
@@ -39,14 +47,26 @@ fn main() -> ExitCode {
 }
 
 fn usage() -> ExitCode {
-    let ways = "second [--check] < TRACE | second --many FOLDER FIRST COUNT [FIRST COUNT ..]";
+    let ways = "second [--check] < BYTES | second --row NAME MOST < BYTES | \
+                second --many FOLDER FIRST COUNT [FIRST COUNT ..]";
     let _ = writeln!(io::stderr(), "usage: {ways}");
     ExitCode::from(2)
 }
 
-fn replay_input(checked: bool) -> io::Result<bool> {
+fn input() -> io::Result<Vec<u8>> {
     let mut trace = Vec::new();
     io::stdin().read_to_end(&mut trace)?;
+    Ok(trace)
+}
+
+fn row_of_input(name: &str, most: usize) -> io::Result<bool> {
+    let row = row(name, &input()?, most).unwrap_or_default();
+    io::stdout().write_all(row.as_bytes())?;
+    Ok(true)
+}
+
+fn replay_input(checked: bool) -> io::Result<bool> {
+    let trace = input()?;
     let mut out = BufWriter::new(io::stdout().lock());
     let mut tally = Tally::default();
     let mut check = Check::new(&mut tally);
@@ -88,11 +108,8 @@ fn keep(folder: &Path, failure: &Failure) -> io::Result<()> {
     std::fs::create_dir_all(folder)?;
     let file = folder.join(format!("seed-{}.bytes", failure.seed));
     std::fs::write(&file, &failure.trace)?;
-    let second = PathBuf::from(std::env::args_os().next().unwrap_or("second".into()));
-    let trace = second.with_file_name("trace");
-    let (second, trace, file) = (second.display(), trace.display(), file.display());
+    let second = std::env::args().next().unwrap_or("second".into());
     let mut out = io::stdout().lock();
     writeln!(out, "seed {} failed at {}", failure.seed, failure.what)?;
-    writeln!(out, "the trace is kept; run it alone: {second} --check < {file}")?;
-    writeln!(out, "or look at it:                   {trace} show < {file}")
+    writeln!(out, "the trace is kept; run it alone: {second} --check < {}", file.display())
 }

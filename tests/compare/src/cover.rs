@@ -1,0 +1,263 @@
+//! What a set of traces covered: how they ended, how they were handed over, and where in a field a
+//! read ended.
+
+use std::fmt;
+
+use second::replay::Ending;
+use second::trace::{well_formed, Kind};
+
+use crate::hand::{pieces, Way, ROOM};
+
+/// The answer numbers that an event can get in a trace.
+const ANSWERS: [usize; 4] = [0, 3, 4, 5];
+
+/// The numbers that a trace can be refused with.
+const REFUSALS: [usize; 7] = [1, 7, 8, 9, 10, 11, 12];
+
+/// The fields that a read can end in after the first byte of the trace, with their names.
+const KINDS: [(Kind, &str); 7] = [
+    (Kind::Make, "make"),
+    (Kind::Move, "move"),
+    (Kind::Drop, "drop"),
+    (Kind::Load, "load"),
+    (Kind::Store, "store"),
+    (Kind::Collect, "collect"),
+    (Kind::End, "end"),
+];
+
+/// The bytes of the longest field.
+const LONGEST: usize = 11;
+
+/// A trace of so many events is a long one.
+const LONG: usize = 100_000;
+
+/// How often a read ended after so many bytes of a field of each kind; 0 is before its first.
+type Ends = [[u64; LONGEST]; KINDS.len()];
+
+#[derive(Default)]
+pub struct Cover {
+    whole: u64,
+    refused: [u64; 13],
+    answers: [u64; 13],
+    by_pipe: u64,
+    by_file: u64,
+    by_pieces: u64,
+    long: u64,
+    pieces: u64,
+    most_events: usize,
+    most_bytes: usize,
+    room_ends: Ends,
+    piece_ends: Ends,
+}
+
+impl Cover {
+    /// A trace, how it is handed over, and how and with which lines the second program ends.
+    pub fn trace(&mut self, trace: &[u8], way: Way, ending: &Ending, printed: &[u8]) {
+        let mut read = trace.len();
+        match ending {
+            Ending::Refused(refusal) => {
+                self.refused[usize::from(refusal.number)] += 1;
+                read = refusal.offset;
+            }
+            _ => self.whole += 1,
+        }
+        let events = self.lines(printed);
+        self.long += u64::from(events >= LONG);
+        self.most_events = self.most_events.max(events);
+        self.most_bytes = self.most_bytes.max(trace.len());
+        match way {
+            Way::Pipe => self.by_pipe += 1,
+            Way::File => {
+                self.by_file += 1;
+                count_room_ends(&trace[..read], &mut self.room_ends);
+            }
+            Way::Pieces { seed } => {
+                self.by_pieces += 1;
+                let pieces = pieces(trace, seed);
+                self.pieces += pieces.len() as u64;
+                let lengths = pieces.iter().map(|piece| piece.len());
+                count_piece_ends(&trace[..read], lengths, &mut self.piece_ends);
+            }
+        }
+    }
+
+    /// The answers in the lines of the events; how many there are.
+    fn lines(&mut self, printed: &[u8]) -> usize {
+        let mut events = 0;
+        for line in printed.split(|byte| *byte == b'\n') {
+            let mut words = line.split(|byte| *byte == b' ');
+            if words.next().is_some_and(|step| step.first().is_some_and(u8::is_ascii_digit)) {
+                events += 1;
+                if let Some(&[digit]) = words.next() {
+                    self.answers[usize::from(digit - b'0')] += 1;
+                }
+            }
+        }
+        events
+    }
+
+    /// What both covered.
+    pub fn and(mut self, other: Cover) -> Cover {
+        self.whole += other.whole;
+        add(&mut self.refused, &other.refused);
+        add(&mut self.answers, &other.answers);
+        self.by_pipe += other.by_pipe;
+        self.by_file += other.by_file;
+        self.by_pieces += other.by_pieces;
+        self.long += other.long;
+        self.pieces += other.pieces;
+        self.most_events = self.most_events.max(other.most_events);
+        self.most_bytes = self.most_bytes.max(other.most_bytes);
+        add(self.room_ends.as_flattened_mut(), other.room_ends.as_flattened());
+        add(self.piece_ends.as_flattened_mut(), other.piece_ends.as_flattened());
+        self
+    }
+
+    /// What should have come up and never did.
+    pub fn faults(&self) -> Vec<String> {
+        let mut faults = Vec::new();
+        let mut ask = |what: String, times: u64| {
+            if times == 0 {
+                faults.push(format!("never covered: {what}"));
+            }
+        };
+        ask("a whole trace".into(), self.whole);
+        for number in REFUSALS {
+            ask(format!("a trace refused {number}"), self.refused[number]);
+        }
+        for number in ANSWERS {
+            ask(format!("an event answered {number}"), self.answers[number]);
+        }
+        let ways = [self.by_pipe, self.by_file, self.by_pieces];
+        for (way, times) in ["a pipe", "a file", "pieces"].into_iter().zip(ways) {
+            ask(format!("a trace by {way}"), times);
+        }
+        ask(format!("a trace of {LONG} events or more"), self.long);
+        for (ends, what) in [(&self.room_ends, "the room"), (&self.piece_ends, "a piece")] {
+            for (row, (kind, name)) in ends.iter().zip(KINDS) {
+                for (bytes, times) in row.iter().enumerate().take(3 + kind.length()) {
+                    ask(format!("{what} ends after {bytes} bytes of a field {name}"), *times);
+                }
+            }
+        }
+        faults
+    }
+}
+
+fn add(sums: &mut [u64], others: &[u64]) {
+    for (sum, other) in sums.iter_mut().zip(others) {
+        *sum += other;
+    }
+}
+
+/// The fields of a trace, up to the first bytes that are none: where each begins, and its kind.
+fn fields(trace: &[u8]) -> impl Iterator<Item = (usize, Kind)> + '_ {
+    let mut offset = 0;
+    std::iter::from_fn(move || {
+        let kind = well_formed(&trace[offset..])?.kind();
+        let begin = offset;
+        offset += 3 + kind.length();
+        Some((begin, kind))
+    })
+}
+
+fn count(ends: &mut Ends, kind: Kind, bytes: usize) {
+    for (row, (of, _)) in ends.iter_mut().zip(KINDS) {
+        row[bytes] += u64::from(of == kind);
+    }
+}
+
+/// Where the room for input ends. A read fills it; of what it holds, an unfinished field stays and
+/// is moved to its front.
+fn count_room_ends(trace: &[u8], ends: &mut Ends) {
+    let mut front = 0;
+    for (begin, kind) in fields(trace) {
+        let end = front + ROOM;
+        if end < begin + 3 + kind.length() {
+            count(ends, kind, end - begin);
+            front = begin;
+        }
+    }
+}
+
+/// Where the pieces end.
+fn count_piece_ends(trace: &[u8], lengths: impl Iterator<Item = usize>, ends: &mut Ends) {
+    let mut piece_ends = lengths.scan(0, |offset, length| {
+        *offset += length;
+        Some(*offset)
+    });
+    let mut next = piece_ends.next();
+    for (begin, kind) in fields(trace) {
+        let after = begin + 3 + kind.length();
+        while let Some(end) = next.filter(|end| *end < after) {
+            count(ends, kind, end - begin);
+            next = piece_ends.next();
+        }
+    }
+}
+
+impl fmt::Display for Cover {
+    fn fmt(&self, out: &mut fmt::Formatter) -> fmt::Result {
+        let refused: u64 = self.refused.iter().sum();
+        writeln!(out, "{} traces: {} whole, {refused} refused", self.whole + refused, self.whole)?;
+        let numbered = |numbers: &[usize], times: &[u64; 13]| -> String {
+            numbers.iter().map(|number| format!("  {number}: {}", times[*number])).collect()
+        };
+        writeln!(out, "how often each answer number was given:{}", numbered(&ANSWERS, &self.answers))?;
+        writeln!(out, "how often a trace was refused with it:{}", numbered(&REFUSALS, &self.refused))?;
+        writeln!(
+            out,
+            "handed over: {} by a pipe, {} by a file, {} in {} pieces",
+            self.by_pipe, self.by_file, self.by_pieces, self.pieces
+        )?;
+        writeln!(
+            out,
+            "{} with {LONG} events or more; the longest has {} events, the largest {} bytes",
+            self.long, self.most_events, self.most_bytes
+        )?;
+        writeln!(out, "how often the room for input ended after so many bytes of a field:")?;
+        table(out, &self.room_ends)?;
+        writeln!(out, "how often a piece did:")?;
+        table(out, &self.piece_ends)
+    }
+}
+
+fn table(out: &mut fmt::Formatter, ends: &Ends) -> fmt::Result {
+    writeln!(out, "{:>8} {}", "", (0..LONGEST).map(|bytes| format!("{bytes:>8}")).collect::<String>())?;
+    for (row, (kind, name)) in ends.iter().zip(KINDS) {
+        let times = &row[..3 + kind.length()];
+        writeln!(out, "{name:>8} {}", times.iter().map(|times| format!("{times:>8}")).collect::<String>())?;
+    }
+    Ok(())
+}
+
+#[cfg(test)]
+mod tests {
+    use second::maker::make_with_field_at;
+
+    use super::*;
+
+    fn made(ends: &Ends) -> Vec<(&'static str, usize, u64)> {
+        let rows = ends.iter().zip(KINDS);
+        let all =
+            rows.flat_map(|(row, (_, name))| (0..).zip(row).map(move |(bytes, times)| (name, bytes, *times)));
+        all.filter(|(_, _, times)| *times > 0).collect()
+    }
+
+    #[test]
+    fn the_room_ends_where_a_field_was_put() {
+        for within in 0..10 {
+            let mut ends = Ends::default();
+            count_room_ends(&make_with_field_at(1, Kind::Move, ROOM - within), &mut ends);
+            assert_eq!(made(&ends), [("move", within, 1)]);
+        }
+    }
+
+    #[test]
+    fn pieces_end_within_and_between_fields() {
+        let trace = trace::text::write("sizes 1 1 1 1\nmake 0 0\ncollect\nend").unwrap();
+        let mut ends = Ends::default();
+        count_piece_ends(&trace, [4, 7, 3, 6, 20].into_iter(), &mut ends);
+        assert_eq!(made(&ends), [("make", 0, 1), ("make", 3, 1), ("collect", 0, 1)]);
+    }
+}
