@@ -1,10 +1,12 @@
 -- What a call answers and leaves, in numbers.
 --     in-numbers     from what the call gives and the number and value of its answer
 --     fresh-value    the value of `fresh` is 0
+--     many-in-numbers, trace-in-numbers     the same of many events at once, and of a whole trace
 -- Assumes nothing.
 use Prim.Native.Nat.{ℕ}
 use mathlib.Core.Path.{_≡_, refl, sym, ap, _∙_}
 use mathlib.Core.Bool.{Bool, true, false, cond}
+use mathlib.Core.List.{List}
 use Rattle.rules.specs.declared.Sizes.{Sizes}
 use Rattle.rules.specs.declared.Collector.{Collector}
 use Rattle.rules.specs.declared.Answer.the-variants.{Fresh}
@@ -15,7 +17,12 @@ use Rattle.rules.specs.Reply.{number, value}
 use Rattle.tables.specs.Tables.{Tables}
 use Rattle.tables.specs.Event.{Called, written}
 use Rattle.pool.specs.Calls.{fits, refusedOn, madeFresh}
+use Rattle.trace.specs.declared.Replay.{Replay}
+use Rattle.trace.specs.Traced.{Traced}
+use Rattle.many.specs.declared.Many.{Many}
+use Rattle.many.specs.Many.{ManyOn}
 use Rattle.yuyarisun.specs.Exported.{Numbers, numbers}
+use Rattle.yuyarisun.specs.Several.{restNumber, restPlace, manyNumbers, endingNumber, endingPlace, endingFree, traceNumbers}
 
 pub in-numbers : (given : Called) (x : Answered) (t : Tables) (n v : ℕ)
     → given ≡ record { answer = x .answer; collector = x .collector; tables = t } → n ≡ number (x .answer) → v ≡ value (x .answer)
@@ -41,3 +48,63 @@ fresh-value s t c = none (fits s t)
     none : (b : Bool) → value (cond b (written s (record { answer = Fresh; pool = fresh s })) (refusedOn WrongSize t c) .answer) ≡ 0
     none true = refl
     none false = refl
+
+pub many-in-numbers : (given : ManyOn) (x : Many) (t : Tables) (answers : List ℕ) (n place : ℕ)
+    → given ≡ record { rest = x .rest; ran = x .ran; tables = t; answers = answers } → n ≡ restNumber (x .rest) → place ≡ restPlace (x .rest) (x .ran .next)
+    → manyNumbers given
+    ≡ record {
+      number = n;
+      place = place;
+      step = x .ran .step;
+      events = x .ran .events;
+      phase = x .ran .collector .phase;
+      position = x .ran .collector .position;
+      closed = x .ran .collector .closed;
+      tables = t;
+      answers = answers;
+    }
+unfolding manyNumbers
+many-in-numbers given x t answers n place gives numbered placed =
+    ap manyNumbers gives
+    ∙ (λ j.
+    record {
+      number = sym numbered j;
+      place = sym placed j;
+      step = x .ran .step;
+      events = x .ran .events;
+      phase = x .ran .collector .phase;
+      position = x .ran .collector .position;
+      closed = x .ran .collector .closed;
+      tables = t;
+      answers = answers;
+    })
+
+pub trace-in-numbers : (given : Traced) (x : Replay) (t : Tables) (answers : List ℕ) (n free place : ℕ)
+    → given ≡ record { replay = x; tables = t; answers = answers } → n ≡ endingNumber (x .ending) → free ≡ endingFree (x .ending) → place ≡ endingPlace (x .ending)
+    → traceNumbers given
+    ≡ record {
+      number = n;
+      free = free;
+      place = place;
+      events = x .events;
+      phase = x .collector .phase;
+      position = x .collector .position;
+      closed = x .collector .closed;
+      tables = t;
+      answers = answers;
+    }
+unfolding traceNumbers
+trace-in-numbers given x t answers n free place gives numbered counted placed =
+    ap traceNumbers gives
+    ∙ (λ j.
+    record {
+      number = sym numbered j;
+      free = sym counted j;
+      place = sym placed j;
+      events = x .events;
+      phase = x .collector .phase;
+      position = x .collector .position;
+      closed = x .collector .closed;
+      tables = t;
+      answers = answers;
+    })

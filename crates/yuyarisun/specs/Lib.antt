@@ -1,3 +1,5 @@
 -- The library for other languages.
 --     Exported     what each exported call answers and leaves
+--     Several      many events at once, and a whole trace
 pub mod Exported
+pub mod Several

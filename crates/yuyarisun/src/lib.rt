@@ -3,19 +3,25 @@
 // refuses. The header is include/yuyarisun.h.
 //     yuyarisun_make, _move, _drop, _load, _store, _collect     one event of each kind: `pool::event`
 //     yuyarisun_fresh, _sound, _free_records                    the other calls of `pool`
+//     yuyarisun_events, _trace                                  many events at once; a whole trace
 //     yuyarisun_inner_event                                     inner: an event on a pool that is known to be sound; in no header
-// Inner: one_event, event_of.
+// Inner: one_event, event_of, rest_number, rest_place, ending_number, ending_place, ending_free.
 use events::event_known;
+use many::Rest;
+use many::many_events;
 use pool::event;
 use pool::free_records;
 use pool::fresh;
 use pool::sound;
 use reply::number_of;
+use reply::refusal_number;
 use reply::value_of;
 use rules::Answered;
 use rules::Collector;
 use rules::Event;
 use rules::Sizes;
+use trace::Ending;
+use trace::replay_trace;
 ghost use mathlib.Core.Path.{_≡_};
 ghost use mathlib.Core.Bool.{_&&_};
 ghost use Rattle.rules.specs.Outcome.{freeMarks};
@@ -25,7 +31,10 @@ ghost use Rattle.tables.specs.Known.{Known};
 ghost use Rattle.tables.specs.Event.{eventOn};
 ghost use Rattle.clauses.specs.IsSound.{isSound};
 ghost use Rattle.pool.specs.Calls.{fits, called, madeFresh};
+ghost use Rattle.trace.specs.Traced.{traced};
+ghost use Rattle.many.specs.Many.{manyOn};
 ghost use Rattle.yuyarisun.specs.Exported.{sizesOf, collectorOf, eventOf, numbers};
+ghost use Rattle.yuyarisun.specs.Several.{restNumber, restPlace, manyNumbers, endingNumber, endingPlace, endingFree, traceNumbers};
 
 // One event on a lent pool, in numbers.
 fn one_event(
@@ -631,4 +640,186 @@ pub extern "C" fn yuyarisun_inner_event(
     let answer = x.answer;
     *value = value_of(answer);
     number_of(answer)
+}
+
+// The number of what stopped many events, 0 if nothing did.
+fn rest_number(rest: Rest) -> u16
+    ensures { λ x. ⌜ x ≡ restNumber rest ⌝ }
+{
+    match rest {
+        Rest::Nothing => 0,
+        Rest::Stopped(why, at) => refusal_number(why),
+    }
+}
+
+// The place where many events stopped: behind the last of them, if nothing stopped them.
+fn rest_place(rest: Rest, next: usize) -> usize
+    ensures { λ x. ⌜ x ≡ restPlace rest next ⌝ }
+{
+    match rest {
+        Rest::Nothing => next,
+        Rest::Stopped(why, at) => at,
+    }
+}
+
+// Many events at once: event fields as a trace has them. The pool is checked once. `step` is the last step number before them and becomes their last; each event's
+// number and value are put into `answers` in turn, as far as there is room, and how many there were into `events`. The answer is 0 if every byte was taken; else
+// the number of the refusal, with its place in `place`, and the events before it are done.
+#[no_mangle]
+pub extern "C" fn yuyarisun_events(
+    n: u16,
+    k: u16,
+    w: u16,
+    r: u16,
+    used: &mut [u16],
+    counts: &mut [u16],
+    held: &mut [u16],
+    candidates: &mut [u16],
+    makers: &mut [u16],
+    values: &mut [u16],
+    changed: &mut [u16],
+    registers: &mut [u16],
+    snoops: &mut [u16],
+    logs: &mut [u16],
+    history: &mut [u16],
+    lengths: &mut [u16],
+    phase: &mut u16,
+    position: &mut u16,
+    closed: &mut u16,
+    bytes: &[u8],
+    step: &mut u32,
+    answers: &mut [u16],
+    events: &mut usize,
+    place: &mut usize,
+) -> u16
+    ensures { λ x. ⌜ manyNumbers (manyOn (sizesOf n k w r) (lent (used .entry) (counts .entry) (held .entry) (candidates .entry) (makers .entry) (values .entry) (changed .entry) (registers .entry) (snoops .entry) (logs .entry) (history .entry) (lengths .entry)) (collectorOf (now (phase .entry)) (now (position .entry)) (now (closed .entry))) (now (bytes .entry)) (now (step .entry)) (now (answers .entry)))
+        ≡ record { number = x; place = now (place .exit); step = now (step .exit); events = now (events .exit); phase = now (phase .exit); position = now (position .exit); closed = now (closed .exit); tables = lent (used .exit) (counts .exit) (held .exit) (candidates .exit) (makers .exit) (values .exit) (changed .exit) (registers .exit) (snoops .exit) (logs .exit) (history .exit) (lengths .exit); answers = now (answers .exit) } ⌝ }
+{
+    let s = Sizes { n, k, w, r };
+    let before = Collector {
+        phase: *phase,
+        position: *position,
+        closed: *closed,
+    };
+    let x = many_events(
+        s,
+        used,
+        counts,
+        held,
+        candidates,
+        makers,
+        values,
+        changed,
+        registers,
+        snoops,
+        logs,
+        history,
+        lengths,
+        before,
+        bytes,
+        *step,
+        answers,
+    );
+    let ran = x.ran;
+    let after = ran.collector;
+    *phase = after.phase;
+    *position = after.position;
+    *closed = after.closed;
+    *step = ran.step;
+    *events = ran.events;
+    let rest = x.rest;
+    *place = rest_place(rest, ran.next);
+    rest_number(rest)
+}
+
+// The number of how a trace ended, 0 if it is whole.
+fn ending_number(ending: Ending) -> u16
+    ensures { λ x. ⌜ x ≡ endingNumber ending ⌝ }
+{
+    match ending {
+        Ending::Whole(free, closed) => 0,
+        Ending::Stopped(why, at) => refusal_number(why),
+    }
+}
+
+// The place where a trace was refused, 0 if it is whole.
+fn ending_place(ending: Ending) -> usize
+    ensures { λ x. ⌜ x ≡ endingPlace ending ⌝ }
+{
+    match ending {
+        Ending::Whole(free, closed) => 0,
+        Ending::Stopped(why, at) => at,
+    }
+}
+
+// How many records are free at the end of a whole trace, 0 if it was refused.
+fn ending_free(ending: Ending) -> u16
+    ensures { λ x. ⌜ x ≡ endingFree ending ⌝ }
+{
+    match ending {
+        Ending::Whole(free, closed) => free,
+        Ending::Stopped(why, at) => 0,
+    }
+}
+
+// A whole trace. Its sizes field makes the pool fresh, if the lent tables have these sizes' lengths. Each event's number and value are put into `answers` in turn,
+// as far as there is room, and how many there were into `events`. The answer is 0 for a whole trace, with the free records in `free` and the closed-cycle number in
+// `closed`; else the number of the refusal, with its place in `place`, and the tables are as the fields before left them.
+#[no_mangle]
+pub extern "C" fn yuyarisun_trace(
+    used: &mut [u16],
+    counts: &mut [u16],
+    held: &mut [u16],
+    candidates: &mut [u16],
+    makers: &mut [u16],
+    values: &mut [u16],
+    changed: &mut [u16],
+    registers: &mut [u16],
+    snoops: &mut [u16],
+    logs: &mut [u16],
+    history: &mut [u16],
+    lengths: &mut [u16],
+    phase: &mut u16,
+    position: &mut u16,
+    closed: &mut u16,
+    bytes: &[u8],
+    answers: &mut [u16],
+    events: &mut usize,
+    free: &mut u16,
+    place: &mut usize,
+) -> u16
+    ensures { λ x. ⌜ traceNumbers (traced (lent (used .entry) (counts .entry) (held .entry) (candidates .entry) (makers .entry) (values .entry) (changed .entry) (registers .entry) (snoops .entry) (logs .entry) (history .entry) (lengths .entry)) (collectorOf (now (phase .entry)) (now (position .entry)) (now (closed .entry))) (now (bytes .entry)) (now (answers .entry)))
+        ≡ record { number = x; free = now (free .exit); place = now (place .exit); events = now (events .exit); phase = now (phase .exit); position = now (position .exit); closed = now (closed .exit); tables = lent (used .exit) (counts .exit) (held .exit) (candidates .exit) (makers .exit) (values .exit) (changed .exit) (registers .exit) (snoops .exit) (logs .exit) (history .exit) (lengths .exit); answers = now (answers .exit) } ⌝ }
+{
+    let before = Collector {
+        phase: *phase,
+        position: *position,
+        closed: *closed,
+    };
+    let x = replay_trace(
+        used,
+        counts,
+        held,
+        candidates,
+        makers,
+        values,
+        changed,
+        registers,
+        snoops,
+        logs,
+        history,
+        lengths,
+        before,
+        bytes,
+        answers,
+    );
+    let after = x.collector;
+    *phase = after.phase;
+    *position = after.position;
+    *closed = after.closed;
+    *events = x.events;
+    let ending = x.ending;
+    *free = ending_free(ending);
+    *place = ending_place(ending);
+    ending_number(ending)
 }

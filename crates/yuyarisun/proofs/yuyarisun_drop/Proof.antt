@@ -43,7 +43,7 @@ same-length-12 : tie.Need-same-length-12
 same-length-12 c = c .before .lengths .given
 
 returns : tie.Need-returns
-returns c = search needs
+returns c = c .before .before .before .before .before .before .before .before .before .before .before .before .before .before .before .before .before .before .before .before .before .before .before .before .one-event .ensures
 
 pub yuyarisun-drop-spec : {M : Type 1} → statement M
 yuyarisun-drop-spec =
