@@ -28,6 +28,11 @@ pub fn make_long(seed: u64, events: usize) -> Made {
     made(Maker::new(sizes, random), events)
 }
 
+/// The same of any sizes.
+pub fn make_of(seed: u64, sizes: Sizes, events: usize) -> Made {
+    made(Maker::new(sizes, Random::new(seed)), events)
+}
+
 fn made(mut maker: Maker, events: usize) -> Made {
     maker.work(events);
     if maker.random.percent(50) {

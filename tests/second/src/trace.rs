@@ -165,14 +165,33 @@ pub struct Refusal {
 /// Reads a trace field by field.
 pub struct Reader<'a> {
     trace: &'a [u8],
+    takes: &'a dyn Fn(Sizes) -> bool,
     offset: usize,
     last_step: u32,
+    /// The sizes were read.
+    sized: bool,
     ended: bool,
 }
 
 impl<'a> Reader<'a> {
+    /// With the limits of `replay`.
     pub fn new(trace: &'a [u8]) -> Reader<'a> {
-        Reader { trace, offset: 0, last_step: 0, ended: false }
+        Reader::taking(trace, &replay_takes)
+    }
+
+    /// With others.
+    pub fn taking(trace: &'a [u8], takes: &'a dyn Fn(Sizes) -> bool) -> Reader<'a> {
+        Reader { trace, takes, offset: 0, last_step: 0, sized: false, ended: false }
+    }
+
+    /// What comes behind the sizes and the event with this step number.
+    pub fn behind(trace: &'a [u8], last_step: u32) -> Reader<'a> {
+        Reader { last_step, sized: true, ..Reader::new(trace) }
+    }
+
+    /// Where the next field begins, and the last step number.
+    pub fn at(&self) -> (usize, u32) {
+        (self.offset, self.last_step)
     }
 
     /// The next field that is taken; nothing after a whole trace.
@@ -185,7 +204,7 @@ impl<'a> Reader<'a> {
         let field = self.read(rest).map_err(refused)?;
         self.offset += field.bytes().len();
         match field {
-            Field::Sizes(_) => {}
+            Field::Sizes(_) => self.sized = true,
             Field::Event { step, .. } => self.last_step = step,
             Field::End { .. } => self.ended = true,
         }
@@ -198,7 +217,7 @@ impl<'a> Reader<'a> {
         let (kind, payload) = split(rest, |kind| self.may_stand(kind))?;
         let field = meaning(kind, payload).ok_or(8)?;
         match field {
-            Field::Sizes(sizes) if !replay_takes(sizes) => Err(1),
+            Field::Sizes(sizes) if !(self.takes)(sizes) => Err(1),
             Field::Event { step, .. } if self.last_step.checked_add(1) != Some(step) => Err(10),
             Field::End { count } if count != self.last_step => Err(12),
             _ => Ok(field),
@@ -208,7 +227,7 @@ impl<'a> Reader<'a> {
     /// "7: tag unknown, first field not the sizes, or sizes a second time": the sizes stand first
     /// and nowhere else.
     fn may_stand(&self, kind: Kind) -> bool {
-        (kind == Kind::Sizes) == (self.offset == 0)
+        (kind == Kind::Sizes) != self.sized
     }
 }
 

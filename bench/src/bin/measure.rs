@@ -1,0 +1,375 @@
+//! Everything that is measured, and the table. `bench/run` builds what it needs and calls it so:
+//!
+//!     measure [--small] REPLAY SECOND BOEHM     the programs; BOEHM is `-` where it can't be had
+//!
+//! Outputs are compared first; it ends with 1 if two differ, or if something does not run. With
+//! `--small` everything is done once on a small case, and the times say nothing.
+
+use bench::library::{self, Sizes};
+use bench::made::{self, Maker, COLLECTOR_HEAVY, WORKER_HEAVY};
+use bench::table::{grouped, time, Table};
+use bench::{check, child, clock, counted, flat, situation};
+use std::error::Error;
+use std::fs::{self, File};
+use std::hint::black_box;
+use std::io::{BufWriter, Read, Write};
+use std::path::{Path, PathBuf};
+use std::{env, iter};
+
+/// Counted calls, each with its name.
+type Calls = Vec<(String, u64)>;
+type Done<T = ()> = Result<T, Box<dyn Error>>;
+
+const LARGEST: Sizes = Sizes { n: 1024, k: 8, w: 8, r: 16 };
+const SEED: u64 = 1;
+
+/// How much of everything.
+struct Scale {
+    events: u32,
+    /// The second program is much slower, and so is whatever callgrind runs.
+    fewer_events: u32,
+    turns: usize,
+    check_turns: usize,
+    call_events: usize,
+    records: &'static [u16],
+}
+
+const FULL: Scale = Scale {
+    events: 10_000_000,
+    fewer_events: 200_000,
+    turns: 15,
+    check_turns: 5_000,
+    call_events: 400_000,
+    records: &[64, 128, 256, 512, 1024],
+};
+
+const SMALL: Scale = Scale {
+    events: 20_000,
+    fewer_events: 2_000,
+    turns: 1,
+    check_turns: 3,
+    call_events: 20_000,
+    records: &[64, 128],
+};
+
+struct Bench {
+    scale: &'static Scale,
+    replay: PathBuf,
+    second: PathBuf,
+    boehm: Option<PathBuf>,
+    flat: PathBuf,
+    single: PathBuf,
+    /// Traces and outputs; removed at the end.
+    folder: PathBuf,
+    table: Table,
+}
+
+const KINDS: [(&str, usize); 2] = [("worker-heavy", WORKER_HEAVY), ("collector-heavy", COLLECTOR_HEAVY)];
+
+fn same_bytes(a: &Path, b: &Path) -> Done<bool> {
+    let (mut a, mut b) = (File::open(a)?, File::open(b)?);
+    if a.metadata()?.len() != b.metadata()?.len() {
+        return Ok(false);
+    }
+    let (mut x, mut y) = (vec![0; 1 << 16], vec![0; 1 << 16]);
+    loop {
+        let n = a.read(&mut x)?;
+        if n == 0 {
+            return Ok(true);
+        }
+        b.read_exact(&mut y[..n])?;
+        if x[..n] != y[..n] {
+            return Ok(false);
+        }
+    }
+}
+
+impl Bench {
+    fn trace(&self, collects: usize, events: u32) -> Done<PathBuf> {
+        let path = self.folder.join(format!("{collects}-{events}.trace"));
+        if !path.exists() {
+            let mut to = BufWriter::new(File::create(&path)?);
+            made::write_trace(&mut to, SEED, collects, events)?;
+            to.flush()?;
+        }
+        Ok(path)
+    }
+
+    /// Two programs print the same for a trace.
+    fn compare(&self, a: &Path, b: &Path, trace: &Path) -> Done {
+        let (printed_a, printed_b) = (self.folder.join("printed.a"), self.folder.join("printed.b"));
+        child::seconds(a, trace, &printed_a)?;
+        child::seconds(b, trace, &printed_b)?;
+        if !same_bytes(&printed_a, &printed_b)? {
+            return Err(format!("{} and {} print different lines", a.display(), b.display()).into());
+        }
+        fs::remove_file(printed_a)?;
+        fs::remove_file(printed_b)?;
+        Ok(())
+    }
+
+    /// `replay` beside another program on a made trace.
+    fn beside(&mut self, name: &str, program: PathBuf, kind: (&str, usize), events: u32) -> Done {
+        let trace = self.trace(kind.1, events)?;
+        self.compare(&self.replay, &program, &trace)?;
+        let nothing = Path::new("/dev/null");
+        let (mut this, mut that) = (f64::INFINITY, f64::INFINITY);
+        for _ in 0..self.scale.turns {
+            this = this.min(child::seconds(&self.replay, &trace, nothing)?);
+            that = that.min(child::seconds(&program, &trace, nothing)?);
+        }
+        let each = |seconds: f64| format!("{} an event", time(seconds / f64::from(events)));
+        let what = format!("replay, {} trace, {} events, beside {name}", kind.0, grouped(events.into()));
+        self.table.row(&what, each(this), each(that), this / that);
+        Ok(())
+    }
+
+    fn replays(&mut self) -> Done {
+        for kind in KINDS {
+            self.beside("flat-array Rust", self.flat.clone(), kind, self.scale.events)?;
+        }
+        for kind in KINDS {
+            self.beside("the second program", self.second.clone(), kind, self.scale.fewer_events)?;
+        }
+        Ok(())
+    }
+
+    /// The same in instructions, on a shorter trace.
+    fn replay_instructions(&mut self) -> Done {
+        let events = self.scale.fewer_events;
+        for kind in KINDS {
+            let trace = self.trace(kind.1, events)?;
+            let this = counted::whole(&self.replay, &trace, &self.folder)?;
+            let that = counted::whole(&self.flat, &trace, &self.folder)?;
+            let each = |count: u64| format!("{:.1} instructions an event", count as f64 / f64::from(events));
+            let what = format!(
+                "replay, {} trace, {} events, beside flat-array Rust",
+                kind.0,
+                grouped(events.into())
+            );
+            self.table.row(&what, each(this), each(that), this as f64 / that as f64);
+        }
+        Ok(())
+    }
+
+    fn memory(&mut self) -> Done {
+        let events = self.scale.events;
+        for kind in KINDS {
+            let many = child::peak(&self.replay, &self.trace(kind.1, events)?)?;
+            let few = child::peak(&self.replay, &self.trace(kind.1, events / 10)?)?;
+            let what = format!(
+                "peak memory of replay, {} trace, {} events beside {}",
+                kind.0,
+                grouped(events.into()),
+                grouped((events / 10).into())
+            );
+            let kibibytes = |n| format!("{} KiB", grouped(n));
+            self.table.row(&what, kibibytes(many), kibibytes(few), many as f64 / few as f64);
+        }
+        Ok(())
+    }
+
+    /// The checked call beside the flat check of the same clauses, and beside reading the tables.
+    fn checks(&mut self) -> Done {
+        let pools = [
+            ("no entry", situation::quiet(LARGEST)),
+            ("every second link in a log", situation::half_changed(LARGEST)),
+            ("every link in the history and in a log", situation::all_changed(LARGEST, 0)),
+        ];
+        for (name, mut pool) in pools {
+            agree(&pool)?;
+            let copy = pool.clone();
+            let times = clock::best(
+                self.scale.check_turns,
+                &mut [
+                    &mut || {
+                        black_box(pool.checked_move());
+                    },
+                    &mut || {
+                        black_box(check::sound(black_box(&copy)));
+                    },
+                    &mut || {
+                        black_box(check::read(black_box(&copy)));
+                    },
+                ],
+            );
+            if pool != copy {
+                return Err("a register that takes what it holds changes the pool".into());
+            }
+            for (other, seconds) in
+                [("the flat-array check", times[1]), ("reading the tables once", times[2])]
+            {
+                let what = format!("checked call, largest pool, {name}, beside {other}");
+                self.table.row(&what, time(times[0]), time(seconds), times[0] / seconds);
+            }
+        }
+        Ok(())
+    }
+
+    /// The inner event, which checks nothing, beside the flat-array event, on the largest pool.
+    fn inner_events(&mut self) -> Done {
+        for (kind, collects) in KINDS {
+            let mut maker = Box::new(Maker::<1024, 8, 8, 16>::new(SEED, collects));
+            let events: Vec<made::Event> =
+                iter::repeat_with(|| maker.next()).take(self.scale.call_events).collect();
+            let fresh =
+                Box::new(flat::Pool::<1024, 8, 8, 16>::fresh(1024, 8, 8, 16).ok_or("the largest sizes")?);
+            let (mut pool, mut flat) = (library::Pool::fresh(LARGEST), fresh.clone());
+            for [tag, a, b, c, d] in events.iter().copied() {
+                if pool.inner([tag, a, b, c, d]) != flat.event(tag, a, b, c, d) {
+                    return Err("the inner event and the flat-array event differ".into());
+                }
+            }
+            agree(&pool)?;
+            let times = clock::best(
+                self.scale.turns,
+                &mut [
+                    &mut || {
+                        let mut pool = library::Pool::fresh(LARGEST);
+                        for event in &events {
+                            black_box(pool.inner(*event));
+                        }
+                    },
+                    &mut || {
+                        let mut flat = fresh.clone();
+                        for [tag, a, b, c, d] in events.iter().copied() {
+                            black_box(flat.event(tag, a, b, c, d));
+                        }
+                    },
+                ],
+            );
+            let each = |seconds: f64| format!("{} an event", time(seconds / events.len() as f64));
+            let what = format!("inner event, largest pool, {kind}, beside the flat-array event");
+            self.table.row(&what, each(times[0]), each(times[1]), times[0] / times[1]);
+        }
+        Ok(())
+    }
+
+    /// Instructions of the calls that `single` makes, for each N.
+    fn counts(&self, mode: &str, function: &str) -> Done<Vec<Calls>> {
+        let count = |n: &u16| counted::calls(&self.single, &[mode, &n.to_string()], function, &self.folder);
+        Ok(self.scale.records.iter().map(count).collect::<Result<_, _>>()?)
+    }
+
+    /// Each call at the largest N beside the smaller ones; the ratio is to the smallest.
+    fn growth(&mut self, calls: &[Calls]) {
+        let records = self.scale.records;
+        let (first, last) = (&calls[0], &calls[calls.len() - 1]);
+        for (i, (name, most)) in last.iter().enumerate() {
+            let smaller = records[..records.len() - 1].iter().zip(calls);
+            let smaller: Vec<String> =
+                smaller.map(|(n, calls)| format!("{} at {n}", grouped(calls[i].1))).collect();
+            let what =
+                format!("instructions of one {name}, at N {}", grouped(records[records.len() - 1].into()));
+            self.table.row(&what, grouped(*most), smaller.join(", "), *most as f64 / first[i].1 as f64);
+        }
+    }
+
+    /// The longest step, which a worker may have to wait for, beside the longest stop of a collector
+    /// that stops the world.
+    fn longest(&mut self, how: &str, calls: &[Calls], stops: Option<&[Calls]>) -> Done {
+        for (i, n) in self.scale.records.iter().enumerate() {
+            let longest =
+                |calls: &Calls| calls.iter().max_by_key(|call| call.1).cloned().ok_or("nothing was counted");
+            let (name, step) = longest(&calls[i])?;
+            let what = format!(
+                "longest step {how} at N {} ({name}), beside Boehm's longest stop",
+                grouped((*n).into())
+            );
+            let instructions = |n| format!("{} instructions", grouped(n));
+            match stops {
+                Some(stops) => {
+                    let stop = longest(&stops[i])?.1;
+                    self.table.row(&what, instructions(step), instructions(stop), step as f64 / stop as f64);
+                }
+                None => self.table.missing(&what, instructions(step), "libgc-dev can't be had"),
+            }
+        }
+        Ok(())
+    }
+
+    fn instructions(&mut self) -> Done {
+        self.replay_instructions()?;
+        let steps = self.counts("steps", "yuyarisun_inner_event")?;
+        let checks = self.counts("check", "yuyarisun_sound")?;
+        let checked = self.counts("checked", "yuyarisun_collect")?;
+        let stop =
+            |boehm: &PathBuf, n: &u16| counted::calls(boehm, &[&n.to_string()], "GC_gcollect", &self.folder);
+        let stops: Option<Vec<Calls>> = match &self.boehm {
+            Some(boehm) => Some(self.scale.records.iter().map(|n| stop(boehm, n)).collect::<Result<_, _>>()?),
+            None => None,
+        };
+        self.growth(&steps);
+        self.growth(&checks);
+        self.longest("without its check", &steps, stops.as_deref())?;
+        self.longest("with its check", &checked, stops.as_deref())
+    }
+
+    fn all(&mut self) -> Done {
+        self.replays()?;
+        self.checks()?;
+        self.inner_events()?;
+        if counted::is_there() {
+            self.instructions()?;
+        } else {
+            self.table.missing(
+                "growth with N, and the longest step",
+                "not measured".into(),
+                "valgrind can't be had",
+            );
+        }
+        self.memory()
+    }
+}
+
+/// The check in the library and the flat one answer the same, on a sound pool and on damaged ones.
+fn agree(pool: &library::Pool) -> Done {
+    if !pool.is_sound() || !check::sound(pool) {
+        return Err("a pool that should be sound is not".into());
+    }
+    let mut damaged = pool.clone();
+    for table in 0..12 {
+        for place in [0, damaged.tables()[table].len() / 2, damaged.tables()[table].len() - 1] {
+            for number in [0, 1, 2, 1025, 8192, u16::MAX] {
+                let before = *damaged.number(table, place);
+                *damaged.number(table, place) = number;
+                if damaged.is_sound() != check::sound(&damaged) {
+                    return Err(
+                        format!("the checks differ: table {table}, place {place}, number {number}").into()
+                    );
+                }
+                *damaged.number(table, place) = before;
+            }
+        }
+    }
+    Ok(())
+}
+
+fn main() -> Done {
+    let words: Vec<String> = env::args().skip(1).collect();
+    let (small, programs) = match words.split_first() {
+        Some((first, rest)) if first == "--small" => (true, rest),
+        _ => (false, &words[..]),
+    };
+    let [replay, second, boehm] = programs else {
+        return Err("usage: measure [--small] REPLAY SECOND BOEHM".into());
+    };
+    let here = env::current_exe()?;
+    let beside = |name: &str| here.with_file_name(name);
+    let folder = env::temp_dir().join(format!("bench-{}", std::process::id()));
+    fs::create_dir_all(&folder)?;
+    let mut bench = Bench {
+        scale: if small { &SMALL } else { &FULL },
+        replay: replay.into(),
+        second: second.into(),
+        boehm: (boehm != "-").then(|| boehm.into()),
+        flat: beside("flat"),
+        single: beside("single"),
+        folder,
+        table: Table::default(),
+    };
+    let done = bench.all();
+    fs::remove_dir_all(&bench.folder)?;
+    bench.table.print();
+    done
+}

@@ -1,0 +1,53 @@
+//! The calls that callgrind counts one by one, for a pool of N records with the largest K, W and R:
+//!
+//!     single steps N      each event and each phase at its longest, through the inner call
+//!     single checked N    each phase, through the checked call
+//!     single check N      the check, on a quiet pool, on a half changed one and on a full one
+//!
+//! It prints one name for each call that is counted, in order. Nothing else calls what is counted.
+
+use bench::check;
+use bench::library::{Pool, Sizes};
+use bench::situation::{self, Situation};
+use std::env;
+use std::process::exit;
+
+/// Each situation's event, and that the pool is sound before and behind it.
+fn steps(situations: Vec<Situation>, event: impl Fn(&mut Pool, [u8; 5]) -> (u16, u16)) {
+    for Situation { name, mut pool, event: numbers } in situations {
+        assert!(check::sound(&pool), "{name}: the pool is not sound");
+        let before = pool.clone();
+        let (number, _) = event(&mut pool, numbers);
+        assert_eq!(number, 0, "{name}");
+        assert!(pool != before, "{name}: nothing changed");
+        assert!(check::sound(&pool), "{name}: the pool is no longer sound");
+        println!("{name}");
+    }
+}
+
+fn check(sizes: Sizes) {
+    let pools = [
+        ("check, no entry", situation::quiet(sizes)),
+        ("check, every second link in a log", situation::half_changed(sizes)),
+        ("check, every link in the history and in a log", situation::all_changed(sizes, 0)),
+    ];
+    for (name, pool) in pools {
+        assert!(check::sound(&pool) && pool.is_sound(), "{name}: the pool is not sound");
+        println!("{name}");
+    }
+}
+
+fn main() {
+    let words: Vec<String> = env::args().collect();
+    let n = words.get(2).and_then(|n| n.parse().ok());
+    let (Some(mode), Some(n)) = (words.get(1), n) else {
+        eprintln!("usage: single steps|checked|check N");
+        exit(2);
+    };
+    let sizes = Sizes { n, k: 8, w: 8, r: 16 };
+    match mode.as_str() {
+        "steps" => steps(situation::all(sizes), |pool, numbers| pool.inner(numbers)),
+        "checked" => steps(situation::collects(sizes), |pool, _| pool.checked_collect()),
+        _ => check(sizes),
+    }
+}

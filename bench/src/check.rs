@@ -1,0 +1,146 @@
+//! "A sound pool" of document 01 on lent tables, every clause, as one would write it for speed and
+//! without proofs; and reading the same tables once.
+//!
+//! Otherwise than the proved check it keeps what was seen of a link in bytes that an entry only
+//! writes, finds a link that stands twice by counting (then fewer links were seen than there are
+//! entries), and tallies four links in a turn.
+
+use crate::library::Pool;
+
+const LINKS: usize = 8192;
+const RECORDS: usize = 1025;
+
+/// Numbers of one table or-ed together: 0 where each is 0, at most 1 where each is.
+fn any(numbers: &[u16]) -> u16 {
+    numbers.iter().fold(0, |all, number| all | number)
+}
+
+fn largest(numbers: &[u16]) -> u16 {
+    numbers.iter().fold(0, |most, number| most.max(*number))
+}
+
+/// Reads every number of the tables once.
+pub fn read(pool: &Pool) -> u16 {
+    pool.tables().iter().fold(0, |all, table| all | any(table))
+}
+
+fn phase_fits(pool: &Pool, entries: u16) -> bool {
+    let (position, w) = (pool.position, pool.sizes.w);
+    match pool.phase {
+        0 | 6 => position == 0 && entries == 0,
+        1 => position < w && entries == 0,
+        2 | 4 => position < w,
+        3 | 5 => position < entries,
+        _ => false,
+    }
+}
+
+/// What was seen of each link: it stands among the logs and the uncleared history, it stands in the
+/// history; and the record that it counts for.
+struct Seen {
+    standing: [u8; LINKS],
+    in_history: [u8; LINKS],
+    counts_for: [u16; LINKS],
+}
+
+/// The links of entries, and what each says of its link; whether all are in range.
+fn entries(list: &[u16], pool: &Pool, mut say: impl FnMut(usize, u16)) -> bool {
+    let (links, records) = (pool.sizes.links() as u16, pool.sizes.n);
+    let mut ok = true;
+    for entry in list.chunks_exact(2) {
+        let (link, old) = (entry[0], entry[1]);
+        ok &= (link < links) & (old <= records);
+        say(link as usize % LINKS, old);
+    }
+    ok
+}
+
+fn logs(seen: &mut Seen, pool: &Pool) -> bool {
+    let mut ok = true;
+    for (log, length) in pool.logs.chunks_exact(2 * pool.sizes.links()).zip(&pool.lengths) {
+        let (log, past) = log.split_at(2 * *length as usize);
+        ok &= any(past) == 0;
+        ok &= entries(log, pool, |link, old| {
+            seen.standing[link] = 1;
+            seen.counts_for[link] = old;
+        });
+    }
+    ok
+}
+
+/// The history: up to `counted` its entries are counted, and from `cleared` on they are uncleared.
+fn history(seen: &mut Seen, pool: &Pool, counted: usize, cleared: usize, length: usize) -> bool {
+    let list = &pool.history;
+    let mut ok = any(&list[2 * length..]) == 0;
+    ok &= entries(&list[..2 * counted], pool, |link, _| seen.in_history[link] = 1);
+    ok &= entries(&list[2 * counted..2 * cleared], pool, |link, old| {
+        seen.in_history[link] = 1;
+        seen.counts_for[link] = old;
+    });
+    ok &= entries(&list[2 * cleared..2 * length], pool, |link, old| {
+        seen.in_history[link] = 1;
+        seen.standing[link] = 1;
+        seen.counts_for[link] = old;
+    });
+    ok
+}
+
+/// How many marks are on, 128 of them in bytes at a time.
+fn on(marks: &[u8; LINKS]) -> usize {
+    marks.chunks_exact(128).map(|some| some.iter().sum::<u8>() as usize).sum()
+}
+
+fn counts_fit(values: &[u16], counts: &[u16]) -> bool {
+    let mut tally = [[0u16; RECORDS]; 4];
+    let fours = values.chunks_exact(4);
+    for value in fours.remainder() {
+        tally[0][*value as usize] += 1;
+    }
+    for four in fours {
+        tally[0][four[0] as usize] += 1;
+        tally[1][four[1] as usize] += 1;
+        tally[2][four[2] as usize] += 1;
+        tally[3][four[3] as usize] += 1;
+    }
+    let [a, b, c, d] = &tally;
+    let tallies = a[1..].iter().zip(&b[1..]).zip(&c[1..]).zip(&d[1..]);
+    let wrong =
+        counts.iter().zip(tallies).fold(0, |all, (count, (((a, b), c), d))| all | ((a + b + c + d) ^ count));
+    wrong == 0
+}
+
+pub fn sound(pool: &Pool) -> bool {
+    let (sizes, links) = (pool.sizes, pool.sizes.links());
+    let lists = sizes.w as usize;
+    let length = pool.lengths[lists];
+    if largest(&pool.lengths) as usize > links || !phase_fits(pool, length) {
+        return false;
+    }
+    let marks =
+        any(&pool.used) | any(&pool.held) | any(&pool.candidates) | any(&pool.snoops) | any(&pool.changed);
+    if marks > 1 || largest(&pool.makers) > sizes.w {
+        return false;
+    }
+    if largest(&pool.registers) > sizes.n || largest(&pool.values) > sizes.n {
+        return false;
+    }
+    let mut seen = Seen { standing: [0; LINKS], in_history: [0; LINKS], counts_for: [0; LINKS] };
+    seen.counts_for[..links].copy_from_slice(&pool.values);
+    let (counted, cleared) = match pool.phase {
+        2 => (0, 0),
+        3 => (0, pool.position),
+        5 => (pool.position, length),
+        _ => (0, length),
+    };
+    if !logs(&mut seen, pool) || !history(&mut seen, pool, counted.into(), cleared.into(), length.into()) {
+        return false;
+    }
+    let entered =
+        pool.lengths[..lists].iter().map(|n| *n as usize).sum::<usize>() + (length - cleared) as usize;
+    let mismatched =
+        pool.changed.iter().zip(&seen.standing).fold(0, |all, (mark, seen)| all | (mark ^ *seen as u16));
+    mismatched == 0
+        && on(&seen.standing) == entered
+        && on(&seen.in_history) == length as usize
+        && counts_fit(&seen.counts_for[..links], &pool.counts)
+}

@@ -1,0 +1,279 @@
+//! A pool in flat arrays of fixed size, as one would write it for speed and without proofs: marks
+//! are bytes, a link number has the largest K as its stride, and the first overwritten value of a
+//! changed link stands beside the link, so that no log is searched. Answer 6 is left out, for no
+//! sound pool gives it.
+
+use std::array;
+
+/// A link, and the value that was overwritten.
+type Entry = (u16, u16);
+
+#[derive(Clone)]
+pub struct Pool<const N: usize, const K: usize, const W: usize, const R: usize> {
+    n: usize,
+    k: usize,
+    w: usize,
+    r: usize,
+    used: [bool; N],
+    counts: [u16; N],
+    held: [bool; N],
+    candidates: [bool; N],
+    makers: [u8; N],
+    values: [[u16; K]; N],
+    changed: [[bool; K]; N],
+    olds: [[u16; K]; N],
+    registers: [[u16; R]; W],
+    snoops: [bool; W],
+    logs: [Vec<Entry>; W],
+    history: Vec<Entry>,
+    phase: u8,
+    position: usize,
+    closed: u16,
+}
+
+pub const DONE: u16 = 0;
+pub const NO_SUCH: u16 = 3;
+pub const HOLDS_NONE: u16 = 4;
+pub const NONE_FREE: u16 = 5;
+
+/// The number, and the value.
+pub type Answer = (u16, u16);
+
+impl<const N: usize, const K: usize, const W: usize, const R: usize> Pool<N, K, W, R> {
+    /// A fresh pool, if the sizes are within the arrays.
+    pub fn fresh(n: usize, k: usize, w: usize, r: usize) -> Option<Self> {
+        let fits = |size: usize, largest: usize| (1..=largest).contains(&size);
+        (fits(n, N) && fits(k, K) && fits(w, W) && fits(r, R)).then(|| Pool {
+            n,
+            k,
+            w,
+            r,
+            used: [false; N],
+            counts: [0; N],
+            held: [false; N],
+            candidates: [false; N],
+            makers: [0; N],
+            values: [[0; K]; N],
+            changed: [[false; K]; N],
+            olds: [[0; K]; N],
+            registers: [[0; R]; W],
+            snoops: [false; W],
+            logs: array::from_fn(|_| Vec::with_capacity(n * k)),
+            history: Vec::with_capacity(n * k),
+            phase: 0,
+            position: 0,
+            closed: 0,
+        })
+    }
+
+    pub fn free_records(&self) -> usize {
+        self.used[..self.n].iter().filter(|used| !**used).count()
+    }
+
+    pub fn has_free(&self) -> bool {
+        self.used[..self.n].contains(&false)
+    }
+
+    pub fn closed(&self) -> u16 {
+        self.closed
+    }
+
+    pub fn register(&self, w: usize, r: usize) -> u16 {
+        self.registers[w][r]
+    }
+
+    /// The event of a trace's tag, with its numbers in the trace's order.
+    #[inline]
+    pub fn event(&mut self, tag: u8, a: u8, b: u8, c: u8, d: u8) -> Answer {
+        let (a, b, c, d) = (a as usize, b as usize, c as usize, d as usize);
+        match tag {
+            0x10 => self.make(a, b),
+            0x11 => self.move_(a, b, c),
+            0x12 => self.drop_(a, b),
+            0x13 => self.load(a, b, c, d),
+            0x14 => self.store(a, b, c, d),
+            _ => (DONE, self.collect()),
+        }
+    }
+
+    #[inline]
+    pub fn make(&mut self, w: usize, r: usize) -> Answer {
+        if w >= self.w || r >= self.r {
+            return (NO_SUCH, 0);
+        }
+        let Some(place) = self.used[..self.n].iter().position(|used| !used) else {
+            return (NONE_FREE, 0);
+        };
+        self.used[place] = true;
+        self.makers[place] = w as u8 + 1;
+        self.registers[w][r] = place as u16 + 1;
+        (DONE, place as u16 + 1)
+    }
+
+    #[inline]
+    pub fn move_(&mut self, w: usize, r: usize, q: usize) -> Answer {
+        if w >= self.w || r >= self.r || q >= self.r {
+            return (NO_SUCH, 0);
+        }
+        self.registers[w][r] = self.registers[w][q];
+        (DONE, self.registers[w][r])
+    }
+
+    #[inline]
+    pub fn drop_(&mut self, w: usize, r: usize) -> Answer {
+        if w >= self.w || r >= self.r {
+            return (NO_SUCH, 0);
+        }
+        self.registers[w][r] = 0;
+        (DONE, 0)
+    }
+
+    #[inline]
+    pub fn load(&mut self, w: usize, r: usize, q: usize, f: usize) -> Answer {
+        if w >= self.w || r >= self.r || q >= self.r || f >= self.k {
+            return (NO_SUCH, 0);
+        }
+        let through = self.registers[w][q] as usize;
+        if through == 0 {
+            return (HOLDS_NONE, 0);
+        }
+        let value = self.values[through - 1][f];
+        self.registers[w][r] = value;
+        (DONE, value)
+    }
+
+    #[inline]
+    pub fn store(&mut self, w: usize, q: usize, f: usize, r: usize) -> Answer {
+        if w >= self.w || q >= self.r || f >= self.k || r >= self.r {
+            return (NO_SUCH, 0);
+        }
+        let through = self.registers[w][q] as usize;
+        if through == 0 {
+            return (HOLDS_NONE, 0);
+        }
+        let place = through - 1;
+        let old = self.values[place][f];
+        let new = self.registers[w][r];
+        if !self.changed[place][f] {
+            self.changed[place][f] = true;
+            self.olds[place][f] = old;
+            self.logs[w].push(((place * K + f) as u16, old));
+        }
+        self.values[place][f] = new;
+        if self.snoops[w] && new != 0 {
+            self.held[new as usize - 1] = true;
+        }
+        (DONE, old)
+    }
+
+    fn onward(&mut self, positions: usize) {
+        self.position += 1;
+        if self.position < positions {
+            return;
+        }
+        self.position = 0;
+        self.phase += 1;
+        if (self.phase == 3 || self.phase == 5) && self.history.is_empty() {
+            self.phase += 1;
+        }
+    }
+
+    /// One collector step; the record freed, otherwise 0.
+    #[inline]
+    pub fn collect(&mut self) -> u16 {
+        match self.phase {
+            0 => self.phase = 1,
+            1 => {
+                self.snoops[self.position] = true;
+                self.onward(self.w);
+            }
+            2 => self.take(),
+            3 => {
+                let link = self.history[self.position].0 as usize;
+                self.changed[link / K][link % K] = false;
+                self.onward(self.history.len());
+            }
+            4 => self.scan(),
+            5 => self.count(),
+            _ => return self.reclaim(),
+        }
+        0
+    }
+
+    fn take(&mut self) {
+        let w = self.position;
+        self.history.append(&mut self.logs[w]);
+        let maker = w as u8 + 1;
+        for place in 0..self.n {
+            let made = self.makers[place] == maker;
+            self.candidates[place] |= made;
+            self.makers[place] = if made { 0 } else { self.makers[place] };
+        }
+        self.onward(self.w);
+    }
+
+    fn scan(&mut self) {
+        let w = self.position;
+        self.snoops[w] = false;
+        for held in &self.registers[w][..self.r] {
+            if *held != 0 {
+                self.held[*held as usize - 1] = true;
+            }
+        }
+        self.onward(self.w);
+    }
+
+    fn count(&mut self) {
+        let (link, old) = self.history[self.position];
+        let (place, f) = (link as usize / K, link as usize % K);
+        self.falls(old);
+        let view = if self.changed[place][f] { self.olds[place][f] } else { self.values[place][f] };
+        if view != 0 {
+            self.counts[view as usize - 1] += 1;
+        }
+        let entries = self.history.len();
+        if self.position + 1 == entries {
+            self.history.clear();
+        }
+        self.onward(entries);
+    }
+
+    fn falls(&mut self, a: u16) {
+        if a == 0 {
+            return;
+        }
+        let place = a as usize - 1;
+        self.counts[place] -= 1;
+        if self.counts[place] == 0 {
+            self.candidates[place] = true;
+        }
+    }
+
+    fn passes(&self, place: usize) -> bool {
+        self.candidates[place]
+            && self.counts[place] == 0
+            && self.used[place]
+            && !self.held[place]
+            && !self.changed[place].contains(&true)
+    }
+
+    fn reclaim(&mut self) -> u16 {
+        let Some(place) = (0..self.n).find(|place| self.passes(*place)) else {
+            self.held = [false; N];
+            for place in 0..self.n {
+                self.candidates[place] &= self.counts[place] == 0;
+            }
+            self.closed = self.closed.wrapping_add(1);
+            self.phase = 0;
+            return 0;
+        };
+        for f in 0..self.k {
+            let value = self.values[place][f];
+            self.values[place][f] = 0;
+            self.falls(value);
+        }
+        self.used[place] = false;
+        self.candidates[place] = false;
+        place as u16 + 1
+    }
+}

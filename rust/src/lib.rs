@@ -1,0 +1,58 @@
+//! A pool of equal records that several workers hold and link, and a collector that gives back what
+//! nobody can reach, one small step at a time, while the workers go on. The pool is written and
+//! proved in Rattle; this crate is a safe type over the static library that comes of it.
+//!
+//! - [`Pool`]      a pool that owns its tables: the one to use
+//! - [`Sizes`]     how many records, links, workers and registers it has
+//! - [`Record`]    a record's number; none is `None`
+//! - [`Event`]     an event as a value, for those who read events from somewhere
+//! - [`Refusal`]   why a call refuses, with document 01's number and its words
+//! - [`Collector`] the collector's own record: its phase, its position, how many cycles have closed
+//! - [`Tables`], [`Lent`]  the tables of a pool in the open, and the checked calls on them
+//! - [`replay()`]  a whole trace from its bytes, on tables of its own; [`Field`] for those who write one
+//!
+//! ```
+//! use yuyarisun::{Pool, Sizes};
+//!
+//! // 8 records with 2 links each, one worker with 2 registers
+//! let mut pool = Pool::new(Sizes { n: 8, k: 2, w: 1, r: 2 })?;
+//! let first = pool.make(0, 0)?;
+//! let second = pool.make(0, 1)?;
+//! pool.store(0, 0, 0, 1)?; // link 0 of the first leads to the second
+//! pool.drop_register(0, 1)?;
+//! assert_eq!(pool.load(0, 1, 0, 0)?, Some(second));
+//!
+//! pool.drop_register(0, 0)?;
+//! pool.drop_register(0, 1)?;
+//! let mut freed = Vec::new();
+//! while pool.collector().closed == 0 {
+//!     freed.extend(pool.collect());
+//! }
+//! assert_eq!(freed, [first, second]);
+//! assert_eq!(pool.free_records(), 8);
+//! # Ok::<(), yuyarisun::Refusal>(())
+//! ```
+
+#![deny(missing_docs)]
+#![deny(unsafe_code)]
+#![deny(unsafe_op_in_unsafe_fn)]
+
+mod event;
+mod lent;
+mod pool;
+mod raw;
+mod refusal;
+mod sizes;
+mod trace;
+
+pub use event::{Event, Field, Record};
+pub use lent::Lent;
+pub use pool::Pool;
+pub use refusal::Refusal;
+pub use sizes::{Collector, Sizes, Tables};
+pub use trace::{answers_in, answers_length, replay, Answer, Replay, Stop, Whole};
+
+/// The examples of the page for newcomers are tried with those of the crate.
+#[cfg(doctest)]
+#[doc = include_str!("../../docs/LIBRARY.md")]
+struct Page;

@@ -1,0 +1,128 @@
+//! What a pool consists of, in the open: its sizes, its twelve tables and the collector's record.
+
+/// The sizes of a pool. There are S = N x K links.
+#[derive(Clone, Copy, Debug, PartialEq, Eq, Hash)]
+pub struct Sizes {
+    /// N, how many records: 1..1024.
+    pub n: u16,
+    /// K, how many links each record has: 1..8.
+    pub k: u16,
+    /// W, how many workers: 1..8.
+    pub w: u16,
+    /// R, how many registers each worker has: 1..16.
+    pub r: u16,
+}
+
+impl Sizes {
+    /// The largest sizes.
+    pub const LARGEST: Sizes = Sizes { n: 1024, k: 8, w: 8, r: 16 };
+
+    /// Whether each size is in its range.
+    pub fn in_range(self) -> bool {
+        let most = Sizes::LARGEST;
+        let pairs = [(self.n, most.n), (self.k, most.k), (self.w, most.w), (self.r, most.r)];
+        pairs.into_iter().all(|(size, largest)| (1..=largest).contains(&size))
+    }
+
+    /// The sizes that a trace begins with, in range or not; `None` if no whole sizes field stands
+    /// there.
+    ///
+    /// ```
+    /// use yuyarisun::Sizes;
+    ///
+    /// let trace = [1, 0, 8, 4, 0, 0, 8, 0, 8, 0, 16, 0x7F, 0, 4, 0, 0, 0, 0];
+    /// assert_eq!(Sizes::of_trace(&trace), Some(Sizes::LARGEST));
+    /// assert_eq!(Sizes::of_trace(&trace[..10]), None);
+    /// ```
+    pub fn of_trace(bytes: &[u8]) -> Option<Sizes> {
+        let &[0x01, 0, 8, a, b, c, d, e, f, g, h, ..] = bytes else { return None };
+        let [n, k, w, r] = [[a, b], [c, d], [e, f], [g, h]].map(u16::from_be_bytes);
+        Some(Sizes { n, k, w, r })
+    }
+
+    /// S, how many links there are in all.
+    pub fn links(self) -> usize {
+        usize::from(self.n) * usize::from(self.k)
+    }
+}
+
+/// The twelve tables of a pool, in which it lies as the section "Lending tables" of the README
+/// says. Their lengths have to be exact.
+#[derive(Clone, Debug, Default, PartialEq, Eq)]
+pub struct Tables {
+    /// N: of record a at a - 1, 1 if it is used and 0 if it is free.
+    pub used: Vec<u16>,
+    /// N: of record a at a - 1, its count.
+    pub counts: Vec<u16>,
+    /// N: of record a at a - 1, its held mark.
+    pub held: Vec<u16>,
+    /// N: of record a at a - 1, its candidate mark.
+    pub candidates: Vec<u16>,
+    /// N: of record a at a - 1, the worker that made it + 1, or 0.
+    pub makers: Vec<u16>,
+    /// S: of link l at l, the record that it leads to, or 0. Link f of record a has the number (a -
+    /// 1) x K + f.
+    pub values: Vec<u16>,
+    /// S: of link l at l, its changed mark.
+    pub changed: Vec<u16>,
+    /// W x R: register r of worker w at w x R + r.
+    pub registers: Vec<u16>,
+    /// W: each worker's snoop flag.
+    pub snoops: Vec<u16>,
+    /// W x 2S: entry i of worker w at w x 2S + 2i, a link and then the value that was overwritten
+    /// first.
+    pub logs: Vec<u16>,
+    /// 2S: the entries taken from the logs, in the same form.
+    pub history: Vec<u16>,
+    /// W + 1: how many entries each log has, then how many the history has.
+    pub lengths: Vec<u16>,
+}
+
+impl Tables {
+    /// Tables of the right lengths with every number 0: a fresh pool, where the sizes are in range.
+    /// Sizes far out of range may ask for more memory than there is.
+    pub fn zeros(sizes: Sizes) -> Tables {
+        let [n, w, r] = [sizes.n, sizes.w, sizes.r].map(usize::from);
+        let s = sizes.links();
+        Tables {
+            used: vec![0; n],
+            counts: vec![0; n],
+            held: vec![0; n],
+            candidates: vec![0; n],
+            makers: vec![0; n],
+            values: vec![0; s],
+            changed: vec![0; s],
+            registers: vec![0; w * r],
+            snoops: vec![0; w],
+            logs: vec![0; w * 2 * s],
+            history: vec![0; 2 * s],
+            lengths: vec![0; w + 1],
+        }
+    }
+
+    /// Whether every table has the length that these sizes ask for.
+    pub fn are_exact(&self, sizes: Sizes) -> bool {
+        let [n, w, r] = [sizes.n, sizes.w, sizes.r].map(usize::from);
+        let s = sizes.links();
+        let by_record = [&self.used, &self.counts, &self.held, &self.candidates, &self.makers];
+        by_record.into_iter().all(|table| table.len() == n)
+            && self.values.len() == s
+            && self.changed.len() == s
+            && self.registers.len() == w * r
+            && self.snoops.len() == w
+            && self.logs.len() == w * 2 * s
+            && self.history.len() == 2 * s
+            && self.lengths.len() == w + 1
+    }
+}
+
+/// The collector's own record, which each collector step moves on.
+#[derive(Clone, Copy, Debug, Default, PartialEq, Eq, Hash)]
+pub struct Collector {
+    /// 0..6; between two cycles it is 0.
+    pub phase: u16,
+    /// Which worker or which history entry is next, in the phases that go one by one.
+    pub position: u16,
+    /// How many cycles have closed; after 65,535 it goes on at 0.
+    pub closed: u16,
+}

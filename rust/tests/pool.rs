@@ -1,0 +1,187 @@
+//! The safe type as its users see it: document 01's sample runs, refusals, and tables that come
+//! from elsewhere.
+
+use std::collections::BTreeSet;
+use std::error::Error;
+
+use yuyarisun::{Collector, Event, Lent, Pool, Record, Refusal, Sizes, Tables};
+
+fn pool(n: u16, k: u16, w: u16, r: u16) -> Pool {
+    Pool::new(Sizes { n, k, w, r }).expect("the sizes are in range")
+}
+
+fn numbers(records: impl IntoIterator<Item = Record>) -> Vec<u16> {
+    records.into_iter().map(Record::number).collect()
+}
+
+/// Steps until the cycle that is open, or the next one, has closed; what was freed.
+fn cycle(pool: &mut Pool) -> Vec<u16> {
+    let closed = pool.collector().closed;
+    let mut freed = Vec::new();
+    while pool.collector().closed == closed {
+        freed.extend(pool.collect());
+    }
+    numbers(freed)
+}
+
+#[test]
+fn the_whole_case() {
+    let mut pool = pool(2, 1, 1, 1);
+    assert_eq!(pool.make(0, 0).map(Record::number), Ok(1));
+    assert_eq!(pool.drop_register(0, 0), Ok(()));
+    let steps: Vec<u16> = (0..6).map(|_| pool.collect().map_or(0, Record::number)).collect();
+    assert_eq!(steps, [0, 0, 0, 0, 1, 0]);
+    assert_eq!(pool.make(0, 0).map(Record::number), Ok(1));
+    assert_eq!((pool.free_records(), pool.collector().closed), (1, 1));
+}
+
+#[test]
+fn every_record_is_made_and_then_none_is_free() {
+    let mut pool = Pool::new(Sizes::LARGEST).unwrap();
+    for number in 1..=1024 {
+        assert_eq!(pool.make(7, 15).map(Record::number), Ok(number));
+    }
+    assert_eq!(pool.make(7, 15), Err(Refusal::NoneFree));
+    assert_eq!(pool.free_records(), 0);
+}
+
+#[test]
+fn chains_are_freed_from_their_heads() -> Result<(), Refusal> {
+    let mut up = pool(3, 1, 1, 3);
+    (0..3).try_for_each(|r| up.make(0, r).map(|_| ()))?;
+    up.store(0, 0, 0, 1)?;
+    up.store(0, 1, 0, 2)?;
+    (0..3).try_for_each(|r| up.drop_register(0, r))?;
+    assert_eq!(cycle(&mut up), [1, 2, 3]);
+
+    let mut down = pool(3, 1, 1, 3);
+    (0..3).try_for_each(|r| down.make(0, r).map(|_| ()))?;
+    down.store(0, 2, 0, 1)?;
+    down.store(0, 1, 0, 0)?;
+    (0..3).try_for_each(|r| down.drop_register(0, r))?;
+    assert_eq!(cycle(&mut down), [3, 2, 1]);
+    Ok(())
+}
+
+#[test]
+fn a_record_linked_to_itself_stays_used() -> Result<(), Refusal> {
+    let mut pool = pool(2, 1, 1, 1);
+    pool.make(0, 0)?;
+    pool.store(0, 0, 0, 0)?;
+    pool.drop_register(0, 0)?;
+    assert_eq!((cycle(&mut pool), cycle(&mut pool), pool.free_records()), (vec![], vec![], 1));
+    Ok(())
+}
+
+#[test]
+fn a_refused_event_changes_nothing() {
+    let mut pool = pool(2, 1, 1, 2);
+    pool.make(0, 0).unwrap();
+    let before = pool.clone();
+    assert_eq!(pool.make(1, 0), Err(Refusal::NoSuch));
+    assert_eq!(pool.move_register(0, 2, 0), Err(Refusal::NoSuch));
+    assert_eq!(pool.drop_register(0, 2), Err(Refusal::NoSuch));
+    assert_eq!(pool.load(0, 0, 0, 1), Err(Refusal::NoSuch));
+    assert_eq!(pool.load(0, 0, 1, 0), Err(Refusal::HoldsNone));
+    assert_eq!(pool.store(0, 1, 0, 0), Err(Refusal::HoldsNone));
+    assert_eq!(pool.store(0, 1, 0, 255), Err(Refusal::NoSuch));
+    assert_eq!(pool, before);
+}
+
+#[test]
+fn sizes_out_of_range_are_refused_before_anything_is_allocated() {
+    for wrong in [
+        Sizes { n: 0, ..Sizes::LARGEST },
+        Sizes { n: 1025, ..Sizes::LARGEST },
+        Sizes { k: 9, ..Sizes::LARGEST },
+        Sizes { w: 9, ..Sizes::LARGEST },
+        Sizes { r: 17, ..Sizes::LARGEST },
+        Sizes { n: u16::MAX, k: u16::MAX, w: u16::MAX, r: u16::MAX },
+    ] {
+        assert!(!wrong.in_range());
+        assert_eq!(Pool::new(wrong), Err(Refusal::WrongSize));
+        assert_eq!(
+            Pool::from_tables(wrong, Tables::default(), Collector::default()),
+            Err(Refusal::WrongSize)
+        );
+    }
+}
+
+/// A pool put away amid a cycle and taken up again goes on as if nothing had been.
+#[test]
+fn tables_are_put_away_and_taken_up_again() -> Result<(), Refusal> {
+    let mut pool = pool(4, 2, 2, 2);
+    pool.make(0, 0)?;
+    pool.make(0, 1)?;
+    pool.store(0, 0, 1, 1)?;
+    (0..4).for_each(|_| assert_eq!(pool.collect(), None));
+    pool.drop_register(0, 0)?;
+    let sizes = pool.sizes();
+    let (tables, collector) = pool.clone().into_tables();
+    let mut again = Pool::from_tables(sizes, tables.clone(), collector)?;
+    assert_eq!(again, pool);
+    assert_eq!((cycle(&mut again), cycle(&mut again)), (cycle(&mut pool), cycle(&mut pool)));
+    assert_eq!(again.tables(), pool.tables());
+
+    let mut short = tables.clone();
+    short.logs.pop();
+    assert_eq!(Pool::from_tables(sizes, short, collector), Err(Refusal::WrongSize));
+    let mut spoilt = tables;
+    spoilt.changed[0] = 1;
+    assert_eq!(Pool::from_tables(sizes, spoilt, collector), Err(Refusal::NotSound));
+    Ok(())
+}
+
+#[test]
+fn lent_tables_are_checked_at_every_call() {
+    let sizes = Sizes { n: 4, k: 1, w: 1, r: 1 };
+    let zeros = Tables::zeros(sizes);
+    let mut lent =
+        Lent { sizes, tables: zeros.clone(), collector: Collector { phase: 3, ..Collector::default() } };
+    assert!(!lent.is_sound());
+    assert_eq!(lent.event(Event::Make { w: 9, r: 9 }), Err(Refusal::NotSound));
+    assert_eq!(lent.fresh(), Ok(()));
+    assert!(lent.is_sound());
+    assert_eq!(lent.collector, Collector::default());
+    assert_eq!(lent.event(Event::Make { w: 0, r: 0 }), Ok(Record::of_number(1)));
+    assert_eq!(lent.free_records(), 3);
+    lent.tables.snoops.push(0);
+    let before = lent.clone();
+    assert_eq!(lent.event(Event::Make { w: 9, r: 9 }), Err(Refusal::WrongSize));
+    assert_eq!(lent.fresh(), Err(Refusal::WrongSize));
+    assert_eq!(lent, before);
+    assert!(zeros.are_exact(sizes) && !lent.tables.are_exact(sizes));
+}
+
+#[test]
+fn refusals_have_the_documents_numbers_and_words() {
+    let numbers: Vec<u16> = Refusal::ALL.into_iter().map(Refusal::number).collect();
+    assert_eq!(numbers, (1..=12).collect::<Vec<u16>>());
+    assert!(Refusal::ALL.into_iter().all(|refusal| Refusal::of_number(refusal.number()) == Some(refusal)));
+    assert_eq!((Refusal::of_number(0), Refusal::of_number(13)), (None, None));
+    let words: BTreeSet<String> = Refusal::ALL.into_iter().map(|refusal| refusal.to_string()).collect();
+    assert_eq!(words.len(), 12);
+    let error: Box<dyn Error> = Refusal::NotSound.into();
+    assert_eq!(error.to_string(), "the pool is not sound");
+}
+
+/// A pool is one thread's at a time, and may be handed to another.
+#[test]
+fn a_pool_goes_to_another_thread() {
+    fn may_be_shared<T: Send + Sync>() {}
+    may_be_shared::<Pool>();
+    let mut pool = pool(2, 1, 1, 1);
+    pool.make(0, 0).unwrap();
+    let pool = std::thread::spawn(move || {
+        pool.make(0, 0).unwrap();
+        pool
+    });
+    assert_eq!(pool.join().unwrap().free_records(), 0);
+}
+
+#[test]
+fn none_costs_nothing() {
+    assert_eq!(std::mem::size_of::<Option<Record>>(), 2);
+    assert_eq!(Record::of_number(0), None);
+    assert_eq!(Record::of_number(7).map(|record| record.to_string()), Some("7".into()));
+}

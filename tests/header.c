@@ -1,0 +1,197 @@
+/* Holds the header's names and lengths against what the library leaves in the tables: a few events, after each of which every table that they touch is
+ * looked at under its own name; then many events at once, and a whole trace. For C99 and C++; tests/library builds and runs it. It prints nothing, or the
+ * line that does not hold. */
+#include <stdio.h>
+#include <string.h>
+
+#include "yuyarisun.h"
+
+#define HOLD(condition)                                                                                                                                        \
+    do {                                                                                                                                                       \
+        if (!(condition)) {                                                                                                                                    \
+            printf("line %d does not hold: %s\n", __LINE__, #condition);                                                                                       \
+            return 1;                                                                                                                                          \
+        }                                                                                                                                                      \
+    } while (0)
+
+enum { N = 4, K = 2, W = 2, R = 2 };
+static uint16_t block[YUYARISUN_TOTAL_LENGTH(N, K, W, R)];
+static uint16_t largest[YUYARISUN_TOTAL_LENGTH(1024, 8, 8, 16)];
+
+/* The words of each number, and of none. */
+static int words(void)
+{
+    for (uint16_t number = 0; number <= 12; number++)
+        for (uint16_t other = 0; other <= number; other++)
+            HOLD((strcmp(yuyarisun_words(number), yuyarisun_words(other)) == 0) == (number == other));
+    HOLD(strcmp(yuyarisun_words(YUYARISUN_DONE), "done") == 0);
+    HOLD(strcmp(yuyarisun_words(YUYARISUN_WRONG_COUNT), "end field's count is not the last step number") == 0);
+    HOLD(strcmp(yuyarisun_words(13), yuyarisun_words(65535)) == 0);
+    return 0;
+}
+
+/* The tables fill the block, and sizes or blocks that are wrong are refused. */
+static int laid_out(void)
+{
+    yuyarisun_pool pool;
+    yuyarisun_sizes sizes = {N, K, W, R};
+    size_t total = sizeof block / sizeof *block;
+    HOLD(sizeof largest / sizeof *largest == 169105);
+    HOLD(yuyarisun_lay(&pool, sizes, block, total - 1) == YUYARISUN_WRONG_SIZE);
+    HOLD(yuyarisun_lay(&pool, sizes, block, total) == YUYARISUN_DONE);
+    HOLD(pool.used.numbers == block && pool.lengths.numbers + pool.lengths.length == block + total);
+    pool.logs.length--;
+    HOLD(yuyarisun_pool_fresh(&pool) == YUYARISUN_WRONG_SIZE);
+    HOLD(yuyarisun_pool_collect(&pool).number == YUYARISUN_WRONG_SIZE);
+    for (int size = 0; size < 4; size++) {
+        const uint16_t past[4] = {1025, 9, 9, 17};
+        yuyarisun_sizes wrong = {1024, 8, 8, 16};
+        uint16_t *each[4] = {&wrong.n, &wrong.k, &wrong.w, &wrong.r};
+        HOLD(yuyarisun_lay(&pool, wrong, largest, sizeof largest / sizeof *largest) == YUYARISUN_DONE);
+        HOLD(yuyarisun_pool_fresh(&pool) == YUYARISUN_DONE && yuyarisun_pool_sound(&pool) && yuyarisun_pool_free_records(&pool) == 1024);
+        *each[size] = past[size];
+        HOLD(yuyarisun_lay(&pool, wrong, largest, SIZE_MAX) == YUYARISUN_WRONG_SIZE);
+        *each[size] = 0;
+        HOLD(yuyarisun_lay(&pool, wrong, largest, SIZE_MAX) == YUYARISUN_WRONG_SIZE);
+    }
+    return 0;
+}
+
+static int done(yuyarisun_answer answer, uint16_t value)
+{
+    return answer.number == YUYARISUN_DONE && answer.value == value;
+}
+
+/* Worker 1 makes two records and links them, before the cycle and while it snoops; the cycle goes by. */
+static int named(void)
+{
+    yuyarisun_pool pool;
+    yuyarisun_sizes sizes = {N, K, W, R};
+    const size_t log = 1 * 2 * YUYARISUN_ALL_LINKS(N, K);
+    HOLD(yuyarisun_lay(&pool, sizes, block, sizeof block / sizeof *block) == YUYARISUN_DONE);
+    memset(block, 0xff, sizeof block);
+    HOLD(!yuyarisun_pool_sound(&pool) && yuyarisun_pool_collect(&pool).number == YUYARISUN_NOT_SOUND);
+    HOLD(yuyarisun_pool_fresh(&pool) == YUYARISUN_DONE && yuyarisun_pool_sound(&pool));
+
+    HOLD(done(yuyarisun_pool_make(&pool, 1, 0), 1) && done(yuyarisun_pool_make(&pool, 1, 1), 2));
+    HOLD(pool.used.numbers[0] == 1 && pool.used.numbers[1] == 1 && pool.used.numbers[2] == 0);
+    HOLD(pool.makers.numbers[0] == 2 && pool.makers.numbers[1] == 2);
+    HOLD(pool.registers.numbers[1 * R + 0] == 1 && pool.registers.numbers[1 * R + 1] == 2);
+    HOLD(done(yuyarisun_pool_store(&pool, 1, 0, 1, 1), 0));
+    HOLD(pool.values.numbers[1] == 2 && pool.changed.numbers[1] == 1 && pool.lengths.numbers[1] == 1);
+    HOLD(pool.logs.numbers[log] == 1 && pool.logs.numbers[log + 1] == 0);
+    HOLD(done(yuyarisun_pool_store(&pool, 1, 1, 0, 0), 0) && done(yuyarisun_pool_store(&pool, 1, 1, 0, 0), 1));
+    HOLD(pool.logs.numbers[log + 2] == 2 && pool.lengths.numbers[1] == 2);
+    HOLD(done(yuyarisun_pool_load(&pool, 1, 0, 0, 1), 2) && done(yuyarisun_pool_move(&pool, 1, 1, 0), 2) && done(yuyarisun_pool_drop(&pool, 1, 1), 0));
+    HOLD(pool.registers.numbers[1 * R + 0] == 2 && pool.registers.numbers[1 * R + 1] == 0);
+
+    for (int step = 0; step < 3; step++)
+        HOLD(done(yuyarisun_pool_collect(&pool), 0));
+    HOLD(pool.collector.phase == 2 && pool.snoops.numbers[0] == 1 && pool.snoops.numbers[1] == 1);
+    HOLD(done(yuyarisun_pool_store(&pool, 1, 0, 1, 0), 0) && pool.held.numbers[1] == 1);
+    for (int step = 0; step < 2; step++)
+        HOLD(done(yuyarisun_pool_collect(&pool), 0));
+    HOLD(pool.collector.phase == 3 && pool.lengths.numbers[1] == 0 && pool.lengths.numbers[2] == 3);
+    HOLD(pool.history.numbers[0] == 1 && pool.history.numbers[2] == 2 && pool.history.numbers[4] == 3 && pool.logs.numbers[log] == 0);
+    HOLD(pool.candidates.numbers[0] == 1 && pool.candidates.numbers[1] == 1 && pool.makers.numbers[0] == 0);
+    HOLD(done(yuyarisun_pool_collect(&pool), 0) && pool.collector.position == 1 && pool.changed.numbers[1] == 0);
+    while (pool.collector.phase < 6)
+        HOLD(done(yuyarisun_pool_collect(&pool), 0));
+    HOLD(pool.counts.numbers[0] == 1 && pool.counts.numbers[1] == 2 && pool.snoops.numbers[1] == 0 && pool.lengths.numbers[2] == 0);
+    HOLD(done(yuyarisun_pool_collect(&pool), 0) && pool.collector.phase == 0 && pool.collector.closed == 1);
+    HOLD(yuyarisun_pool_sound(&pool) && yuyarisun_pool_free_records(&pool) == 2);
+    HOLD(yuyarisun_pool_make(&pool, 2, 0).number == YUYARISUN_NO_SUCH && yuyarisun_pool_load(&pool, 0, 0, 0, 0).number == YUYARISUN_HOLDS_NONE);
+    return 0;
+}
+
+/* Each kind of event as bytes, many at once, and what stops them. */
+static int many(void)
+{
+    static const uint8_t expected[] = {
+        0x10, 0, 6, 1, 2, 3, 4, 1, 0,       /* make */
+        0x11, 0, 7, 1, 2, 3, 5, 1, 1, 0,    /* move */
+        0x14, 0, 8, 1, 2, 3, 6, 1, 0, 1, 1, /* store */
+        0x13, 0, 8, 1, 2, 3, 7, 1, 1, 0, 1, /* load */
+        0x12, 0, 6, 1, 2, 3, 8, 1, 0,       /* drop */
+        0x20, 0, 4, 1, 2, 3, 9              /* collect */
+    };
+    static const uint16_t answered[12] = {0, 1, 0, 1, 0, 0, 0, 1, 0, 0, 0, 0};
+    uint8_t bytes[6 * YUYARISUN_EVENT_MOST_BYTES];
+    uint16_t answers[YUYARISUN_ANSWERS_LENGTH(sizeof bytes)];
+    uint32_t step = 0x01020304;
+    uint8_t *at = bytes;
+    at = yuyarisun_put_make(at, step, 1, 0);
+    at = yuyarisun_put_move(at, step + 1, 1, 1, 0);
+    at = yuyarisun_put_store(at, step + 2, 1, 0, 1, 1);
+    at = yuyarisun_put_load(at, step + 3, 1, 1, 0, 1);
+    at = yuyarisun_put_drop(at, step + 4, 1, 0);
+    at = yuyarisun_put_collect(at, step + 5);
+    const size_t length = (size_t)(at - bytes);
+    HOLD(length == sizeof expected && memcmp(bytes, expected, length) == 0);
+    HOLD(YUYARISUN_ANSWERS_LENGTH(length) >= 12 && YUYARISUN_ANSWERS_LENGTH(6) == 0 && YUYARISUN_ANSWERS_LENGTH(14) == 4);
+
+    yuyarisun_pool pool;
+    yuyarisun_sizes sizes = {N, K, W, R};
+    HOLD(yuyarisun_lay(&pool, sizes, block, sizeof block / sizeof *block) == YUYARISUN_DONE && yuyarisun_pool_fresh(&pool) == YUYARISUN_DONE);
+    memset(answers, 0xff, sizeof answers);
+    yuyarisun_events_answer all = yuyarisun_pool_events(&pool, bytes, length, &step, answers, sizeof answers / sizeof *answers);
+    HOLD(all.number == YUYARISUN_WRONG_STEP && all.place == 0 && all.events == 0 && step == 0x01020304 && answers[0] == 0xffff);
+    step--;
+    all = yuyarisun_pool_events(&pool, bytes, length, &step, answers, sizeof answers / sizeof *answers);
+    HOLD(all.number == YUYARISUN_DONE && all.place == length && all.events == 6 && step == 0x01020309);
+    HOLD(memcmp(answers, answered, sizeof answered) == 0 && answers[12] == 0xffff);
+    HOLD(pool.registers.numbers[1 * R + 0] == 0 && pool.registers.numbers[1 * R + 1] == 1 && pool.values.numbers[1] == 1 && pool.collector.phase == 1);
+
+    all = yuyarisun_pool_events(&pool, NULL, 0, &step, NULL, 0);
+    HOLD(all.number == YUYARISUN_DONE && all.place == 0 && all.events == 0 && step == 0x01020309);
+    at = yuyarisun_put_collect(bytes, step + 1);
+    at = yuyarisun_put_collect(at, step + 3);
+    all = yuyarisun_pool_events(&pool, bytes, (size_t)(at - bytes), &step, answers, 1);
+    HOLD(all.number == YUYARISUN_WRONG_STEP && all.place == 7 && all.events == 1 && step == 0x0102030a && answers[0] == 0 && answers[1] == 1);
+    HOLD(pool.collector.position == 1);
+    pool.lengths.length--;
+    HOLD(yuyarisun_pool_events(&pool, bytes, 7, &step, NULL, 0).number == YUYARISUN_WRONG_SIZE);
+    pool.lengths.length++;
+    pool.used.numbers[0] = 2;
+    all = yuyarisun_pool_events(&pool, bytes, 7, &step, NULL, 0);
+    HOLD(all.number == YUYARISUN_NOT_SOUND && all.place == 0 && all.events == 0 && step == 0x0102030a);
+    return 0;
+}
+
+/* The document's whole case, and what refuses it. */
+static int traced(void)
+{
+    static const uint16_t answered[18] = {0, 1, 0, 0, 0, 0, 0, 0, 0, 0, 0, 0, 0, 1, 0, 0, 0, 1};
+    uint8_t trace[11 + 9 * YUYARISUN_EVENT_MOST_BYTES + 7] = {0x01, 0, 8, 0, 2, 0, 1, 0, 1, 0, 1};
+    const uint8_t end[7] = {0x7f, 0, 4, 0, 0, 0, 9};
+    uint8_t *at = yuyarisun_put_drop(yuyarisun_put_make(trace + 11, 1, 0, 0), 2, 0, 0);
+    for (uint32_t step = 3; step <= 8; step++)
+        at = yuyarisun_put_collect(at, step);
+    at = yuyarisun_put_make(at, 9, 0, 0);
+    memcpy(at, end, sizeof end);
+    const size_t length = (size_t)(at + sizeof end - trace);
+
+    yuyarisun_pool pool;
+    uint16_t answers[18];
+    yuyarisun_sizes sizes = yuyarisun_sizes_of_trace(trace, length);
+    HOLD(sizes.n == 2 && sizes.k == 1 && sizes.w == 1 && sizes.r == 1);
+    HOLD(yuyarisun_sizes_of_trace(trace, 10).n == 0 && yuyarisun_sizes_of_trace(NULL, 0).n == 0 && yuyarisun_sizes_of_trace(trace + 11, length - 11).n == 0);
+    HOLD(yuyarisun_lay(&pool, sizes, block, sizeof block / sizeof *block) == YUYARISUN_DONE);
+    memset(block, 0xff, sizeof block);
+    yuyarisun_trace_answer whole = yuyarisun_pool_trace(&pool, trace, length, answers, sizeof answers / sizeof *answers);
+    HOLD(whole.number == YUYARISUN_DONE && whole.place == 0 && whole.events == 9 && whole.free_records == 1 && pool.collector.closed == 1);
+    HOLD(memcmp(answers, answered, sizeof answered) == 0 && yuyarisun_pool_sound(&pool) && yuyarisun_pool_free_records(&pool) == 1);
+
+    whole = yuyarisun_pool_trace(&pool, trace, length - 7, NULL, 0);
+    HOLD(whole.number == YUYARISUN_STOPS_SHORT && whole.place == length - 7 && whole.events == 9 && whole.free_records == 0 && yuyarisun_pool_sound(&pool));
+    HOLD(yuyarisun_pool_trace(&pool, NULL, 0, NULL, 0).number == YUYARISUN_STOPS_SHORT);
+    pool.used.length--;
+    whole = yuyarisun_pool_trace(&pool, trace, length, NULL, 0);
+    HOLD(whole.number == YUYARISUN_WRONG_SIZE && whole.place == 0 && whole.events == 0 && pool.collector.closed == 1);
+    return 0;
+}
+
+int main(void)
+{
+    return words() || laid_out() || named() || many() || traced();
+}

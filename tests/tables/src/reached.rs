@@ -1,0 +1,116 @@
+//! What the comparison reached, how often, and what it should have reached.
+
+use std::collections::BTreeMap;
+
+use second::event::Event;
+use second::pool::Sizes;
+
+use crate::runs::LARGEST;
+
+pub const AT_THE_LARGEST: &str = "at the largest sizes";
+
+pub const KINDS: [&str; 6] = ["make", "move", "drop", "load", "store", "collect"];
+
+pub fn kind(event: Event) -> &'static str {
+    match event {
+        Event::Make { .. } => "make",
+        Event::Move { .. } => "move",
+        Event::Drop { .. } => "drop",
+        Event::Load { .. } => "load",
+        Event::Store { .. } => "store",
+        Event::Collect => "collect",
+    }
+}
+
+/// Which numbers a kind of event is answered with on a sound pool. 6 is not among them: a link that
+/// must be logged stands in no log, so each has fewer than S entries.
+fn numbers(kind: &str) -> &'static [u8] {
+    match kind {
+        "make" => &[0, 3, 5],
+        "move" | "drop" => &[0, 3],
+        "load" | "store" => &[0, 3, 4],
+        _ => &[0],
+    }
+}
+
+/// A part of the comparison, with how often each thing was reached in it.
+#[derive(Default)]
+pub struct Reached {
+    pub cases: u64,
+    /// By kind, phase before and number.
+    events: BTreeMap<(&'static str, u8, u8), u64>,
+    situations: BTreeMap<String, u64>,
+    /// Events on tables that are refused whatever the event is.
+    pub refused: u64,
+}
+
+impl Reached {
+    pub fn event(&mut self, event: Event, phase: u8, number: u8) {
+        *self.events.entry((kind(event), phase, number)).or_insert(0) += 1;
+    }
+
+    pub fn situation(&mut self, words: &str) {
+        match self.situations.get_mut(words) {
+            Some(times) => *times += 1,
+            None => drop(self.situations.insert(words.into(), 1)),
+        }
+    }
+
+    pub fn sizes(&mut self, sizes: Sizes) {
+        if sizes == LARGEST {
+            self.situation(AT_THE_LARGEST);
+        }
+    }
+
+    /// How many events were compared, those that every table refuses among them.
+    pub fn calls(&self) -> u64 {
+        self.events.values().sum::<u64>() + self.refused
+    }
+
+    /// Each kind in each phase with each of its numbers has to have come, and no other; so have the
+    /// situations.
+    pub fn faults(&self, every_event: bool, situations: &[String]) -> Vec<String> {
+        let mut faults = Vec::new();
+        for kind in KINDS.into_iter().filter(|_| every_event) {
+            for phase in 0..=6 {
+                for number in numbers(kind) {
+                    if !self.events.contains_key(&(kind, phase, *number)) {
+                        faults.push(format!("never reached: {kind} in phase {phase} answered {number}"));
+                    }
+                }
+            }
+        }
+        for (kind, phase, number) in self.events.keys() {
+            if !numbers(kind).contains(number) {
+                faults.push(format!("reached: {kind} in phase {phase} answered {number}"));
+            }
+        }
+        for words in situations.iter().filter(|words| !self.situations.contains_key(*words)) {
+            faults.push(format!("never reached: {words}"));
+        }
+        faults
+    }
+
+    pub fn print(&self) {
+        if !self.events.is_empty() {
+            println!(
+                "  {:>8} {:>7} {}",
+                "",
+                "number",
+                (0..7).map(|phase| format!("{phase:>8}")).collect::<String>()
+            );
+        }
+        for kind in KINDS.into_iter().filter(|_| !self.events.is_empty()) {
+            for number in numbers(kind) {
+                let times = |phase| self.events.get(&(kind, phase, *number)).copied().unwrap_or(0);
+                println!(
+                    "  {kind:>8} {number:>7} {}",
+                    (0..7).map(|phase| format!("{:>8}", times(phase))).collect::<String>()
+                );
+            }
+        }
+        for (words, times) in &self.situations {
+            println!("{times:>10}  {words}");
+        }
+    }
+}

@@ -1,0 +1,113 @@
+//! Runs from a fresh pool, up to the largest sizes of document 01.
+
+use second::event::Event;
+use second::habit::Habit;
+use second::pool::Sizes;
+use second::random::Random;
+
+use crate::both::Both;
+use crate::reached::Reached;
+
+pub const LARGEST: Sizes = Sizes { n: 1024, k: 8, w: 8, r: 16 };
+
+/// Mostly small, for then the same records meet again and again; some in between, a few at the
+/// limits.
+pub fn choose_sizes(random: &mut Random) -> Sizes {
+    let (n, k, w, r) = match random.below(100) {
+        0..=59 => (4, 3, 3, 3),
+        60..=89 => (16, 8, 8, 16),
+        90..=97 => (160, 4, 4, 8),
+        _ => return at_the_limits(random),
+    };
+    Sizes {
+        n: random.between(1, n),
+        k: random.between(1, k),
+        w: random.between(1, w),
+        r: random.between(1, r),
+    }
+}
+
+/// Each size as large or as small as document 01 takes it.
+pub fn at_the_limits(random: &mut Random) -> Sizes {
+    let mut limit = |largest| if random.percent(75) { largest } else { 1 };
+    Sizes { n: limit(LARGEST.n), k: limit(LARGEST.k), w: limit(LARGEST.w), r: limit(LARGEST.r) }
+}
+
+/// An event of each kind with numbers that mostly are there; of those that are not, many are just
+/// past the last.
+pub fn any_event(kind: usize, sizes: Sizes, random: &mut Random) -> Event {
+    let mut below = |size: u16| match random.below(100) {
+        0..=3 => size as u8,
+        4..=5 => random.byte(),
+        _ => random.below(size.into()) as u8,
+    };
+    let (w, r, q, f) = (below(sizes.w), below(sizes.r), below(sizes.r), below(sizes.k));
+    match kind {
+        0 => Event::Make { w, r },
+        1 => Event::Move { w, r, q },
+        2 => Event::Drop { w, r },
+        3 => Event::Load { w, r, q, f },
+        4 => Event::Store { w, q, f, r },
+        _ => Event::Collect,
+    }
+}
+
+/// A whole run, made by the habits of the second program's workers.
+pub fn run(seed: u64, reached: &mut Reached) -> Result<(), String> {
+    let mut random = Random::new(seed);
+    let sizes = choose_sizes(&mut random);
+    let events = if sizes.s() > 1000 { 800 } else { 200 + random.below(300) };
+    let mut both = Both::fresh(sizes)?;
+    let mut plans: Vec<Vec<Event>> = vec![Vec::new(); usize::from(sizes.w)];
+    let mut done = 0;
+    while done < events {
+        let rate = random.pick(&[0, 3, 10, 30, 50, 70, 90, 100]);
+        let habits: Vec<Habit> = (0..3).map(|_| random.pick(&Habit::ALL)).collect();
+        for _ in 0..5 + random.below(40) {
+            let w = random.below(plans.len());
+            if plans[w].is_empty() {
+                plans[w] = random.pick(&habits).plan(&both.second, w as u8, &mut random);
+                plans[w].reverse();
+            }
+            let event = match plans[w].pop() {
+                Some(event) if !random.percent(rate) => event,
+                _ => Event::Collect,
+            };
+            both.event(event, reached).map_err(|told| format!("{sizes:?}, event {}: {told}", done + 1))?;
+            done += 1;
+        }
+    }
+    Ok(())
+}
+
+/// A run that fills one worker's log and then the history with S entries: every record is made and
+/// every link of it stored to, then a whole cycle, with some stores between the steps.
+pub fn full(sizes: Sizes, seed: u64, reached: &mut Reached) -> Result<(), String> {
+    let mut random = Random::new(seed);
+    let mut both = Both::fresh(sizes)?;
+    let mut number = 0;
+    let mut go = |both: &mut Both, event| {
+        number += 1;
+        both.event(event, reached).map_err(|told| format!("{sizes:?}, event {number}: {told}"))
+    };
+    let w = (sizes.w - 1) as u8;
+    let others = |random: &mut Random| random.below(usize::from(sizes.r)) as u8;
+    for _ in 0..sizes.n {
+        go(&mut both, Event::Make { w, r: 0 })?;
+        for f in 0..sizes.k as u8 {
+            let r = others(&mut random);
+            go(&mut both, Event::Store { w, q: 0, f, r })?;
+        }
+        let r = others(&mut random);
+        go(&mut both, Event::Move { w, r, q: 0 })?;
+    }
+    go(&mut both, Event::Collect)?;
+    while both.second.phase != 0 {
+        if random.percent(5) {
+            let (q, r) = (others(&mut random), others(&mut random));
+            go(&mut both, Event::Store { w, q, f: random.below(sizes.k.into()) as u8, r })?;
+        }
+        go(&mut both, Event::Collect)?;
+    }
+    Ok(())
+}

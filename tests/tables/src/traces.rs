@@ -1,0 +1,182 @@
+//! Whole traces: made and damaged ones, at the sizes of the program `replay` and at any others,
+//! against the second program's replay. How it ended and where, the lines, the tables and the
+//! collector's record at the end are the same; so is what the type that replays on tables of its own
+//! answers and prints.
+
+use second::event::Answer;
+use second::maker::{make, make_of, Made};
+use second::pool::{Pool, Sizes};
+use second::random::Random;
+use second::replay::replay;
+use second::trace::{replay_takes, well_formed, Field, Reader, Refusal};
+use yuyarisun::{Lent, Replay, Whole};
+
+use crate::both::{answer_of, hold, same};
+use crate::lie::{each, sizes_of, written};
+use crate::many::{one, stop_of};
+use crate::reached::{Reached, AT_THE_LARGEST};
+use crate::room;
+use crate::runs::{choose_sizes, LARGEST};
+
+const OTHER_SIZES: &str = "tables of other sizes";
+const OTHER_LENGTH: &str = "a table of another length";
+const PRINTED: &str = "printed as the second program prints it";
+
+/// What a trace may end with.
+const NUMBERS: [u8; 8] = [0, 1, 7, 8, 9, 10, 11, 12];
+
+pub fn all_words() -> Vec<String> {
+    let others = room::WORDS.into_iter().chain([OTHER_SIZES, OTHER_LENGTH, PRINTED, AT_THE_LARGEST]);
+    NUMBERS.map(answered).into_iter().chain(others.map(String::from)).collect()
+}
+
+fn answered(number: u8) -> String {
+    format!("a trace answered {number}")
+}
+
+/// What the second program makes of a trace: no pool if the sizes were not taken.
+struct Expected {
+    answers: Vec<Answer>,
+    pool: Option<Pool>,
+    stop: Option<Refusal>,
+}
+
+fn replayed(bytes: &[u8], takes: &dyn Fn(Sizes) -> bool, reached: &mut Reached) -> Expected {
+    let mut reader = Reader::taking(bytes, takes);
+    let (mut answers, mut pool) = (Vec::new(), None);
+    let stop = loop {
+        match (reader.next_field(), &mut pool) {
+            (Ok(Some(Field::Sizes(sizes))), _) => pool = Some(Pool::fresh(sizes)),
+            (Ok(Some(Field::Event { event, .. })), Some(pool)) => answers.push(one(pool, event, reached)),
+            // The end field. No event comes before the sizes.
+            (Ok(Some(_)), _) => {}
+            (Ok(None), _) => break None,
+            (Err(refusal), _) => break Some(refusal),
+        }
+    };
+    Expected { answers, pool, stop }
+}
+
+fn in_range(sizes: Sizes) -> bool {
+    let pairs = [(sizes.n, LARGEST.n), (sizes.k, LARGEST.k), (sizes.w, LARGEST.w), (sizes.r, LARGEST.r)];
+    pairs.into_iter().all(|(size, largest)| (1..=largest).contains(&size))
+}
+
+/// At the program's sizes, or at any others.
+fn made(seed: u64, random: &mut Random) -> Made {
+    if random.percent(50) {
+        return make(seed);
+    }
+    let sizes = choose_sizes(random);
+    make_of(seed, sizes, 20 + random.below(200))
+}
+
+/// Tables with anything in them, and a collector's record that may be nonsense.
+fn spoilt(sizes: Sizes, random: &mut Random) -> Lent {
+    let mut lent = written(&Pool::fresh(sizes));
+    for number in each(&mut lent.tables).into_iter().flatten() {
+        *number = random.number() as u16;
+    }
+    let collector = &mut lent.collector;
+    for number in [&mut collector.phase, &mut collector.position, &mut collector.closed] {
+        *number = random.number() as u16;
+    }
+    lent
+}
+
+pub fn run(seed: u64, reached: &mut Reached) -> Result<(), String> {
+    let mut random = Random::new(seed);
+    let bytes = made(seed, &mut random).trace;
+    let own = match well_formed(&bytes) {
+        Some(Field::Sizes(sizes)) if in_range(sizes) => Some(sizes),
+        _ => None,
+    };
+    let sizes = own.filter(|_| random.percent(95)).unwrap_or_else(|| choose_sizes(&mut random));
+    let mut lent = spoilt(sizes, &mut random);
+    let exact = random.percent(97);
+    if !exact {
+        let which = random.below(12);
+        let table = each(&mut lent.tables).into_iter().nth(which).expect("there are twelve tables");
+        table.resize(table.len() + 1 - 2 * random.below(2), 0);
+    }
+    // They are not looked at.
+    if random.percent(10) {
+        lent.sizes = sizes_of(choose_sizes(&mut random));
+    }
+    let told = |told: String| format!("{sizes:?}, {} bytes: {told}", bytes.len());
+
+    let expected = replayed(&bytes, &|other| exact && other == sizes, reached);
+    lends(lent, &bytes, &expected, &mut random, reached).map_err(told)?;
+    let replayed = yuyarisun::replay(&bytes);
+    if own.is_some_and(|own| !exact || own != sizes) {
+        reached.situation(if exact { OTHER_SIZES } else { OTHER_LENGTH });
+        let expected = self::replayed(&bytes, &in_range, &mut Reached::default());
+        owns(&replayed, &expected).map_err(told)?;
+    } else {
+        owns(&replayed, &expected).map_err(told)?;
+    }
+    // Where the limits of `replay` are not what refuses the trace.
+    if own.is_none_or(replay_takes) {
+        let mut printed = Vec::new();
+        replay(&bytes, &mut printed, None).map_err(|error| error.to_string())?;
+        hold(replayed.to_string().into_bytes() == printed, || told("prints otherwise".into()))?;
+        reached.situation(PRINTED);
+    }
+    Ok(())
+}
+
+/// The call on lent tables.
+fn lends(
+    mut lent: Lent,
+    bytes: &[u8],
+    expected: &Expected,
+    random: &mut Random,
+    reached: &mut Reached,
+) -> Result<(), String> {
+    let before = lent.clone();
+    let (empty, room_words) = room::any(expected.answers.len(), random);
+    let mut room = empty.clone();
+    let found = lent.trace(bytes, &mut room);
+    let events = expected.answers.len();
+    let free = expected.pool.as_ref().map_or(0, |pool| pool.free_records() as u16);
+    let result = expected.stop.map_or(Ok(Whole { events, free }), |stop| Err(stop_of(stop, events)));
+    hold(found == result, || format!("answered {found:?} and not {result:?}"))?;
+    room::same(&room::put(empty, &expected.answers), &room)?;
+    let after = expected.pool.as_ref().map_or_else(|| before.clone(), written);
+    same("trace", &after, (&lent.tables, lent.collector))?;
+    hold(lent.sizes == before.sizes, || "the sizes are others".into())?;
+    reached.situation(&answered(expected.stop.map_or(0, |stop| stop.number)));
+    reached.situation(room_words);
+    if let Some(pool) = &expected.pool {
+        reached.sizes(pool.sizes);
+    }
+    Ok(())
+}
+
+/// The replay on tables of its own.
+fn owns(found: &Replay, expected: &Expected) -> Result<(), String> {
+    let answers: Vec<_> = expected.answers.iter().copied().map(answer_of).collect();
+    hold(found.answers == answers, || "replay: other answers".into())?;
+    match (&found.ending, expected.stop, &expected.pool) {
+        (Ok(found), None, Some(pool)) => same("replay", &written(pool), (found.tables(), found.collector())),
+        (Err(found), Some(stop), _) => {
+            let stop = stop_of(stop, expected.answers.len());
+            hold(*found == stop, || format!("replay: {found:?} and not {stop:?}"))
+        }
+        _ => Err("replay: whole or refused, and not as the second program has it".into()),
+    }
+}
+
+/// A trace without events, of the sizes that tables of other lengths come with: answered 1 at its
+/// beginning.
+pub fn refused(lent: &mut Lent) -> Result<(), String> {
+    let before = lent.clone();
+    let yuyarisun::Sizes { n, k, w, r } = lent.sizes;
+    let fields = [Field::Sizes(Sizes { n, k, w, r }), Field::End { count: 0 }];
+    let bytes: Vec<u8> = fields.iter().flat_map(Field::bytes).collect();
+    let (mut room, expected) = ([1, 2, 3], stop_of(Refusal { number: 1, offset: 0 }, 0));
+    let found = lent.trace(&bytes, &mut room);
+    hold(found == Err(expected), || format!("trace: answered {found:?} and not {expected:?}"))?;
+    hold(room == [1, 2, 3], || "trace: answers where there is no event".into())?;
+    same("trace", &before, (&lent.tables, lent.collector))
+}

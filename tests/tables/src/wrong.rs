@@ -1,0 +1,126 @@
+//! Sizes out of their range and tables of other lengths: answered 1, and left as they were.
+
+use second::pool::Sizes;
+use second::random::Random;
+use yuyarisun::{Lent, Refusal, Tables};
+
+use crate::both::{hold, same};
+use crate::lie::{each, written, TABLES};
+use crate::made::Draft;
+use crate::reached::Reached;
+use crate::runs::{choose_sizes, LARGEST};
+use crate::traces;
+use crate::ways::refused;
+
+const SIZES: [&str; 4] = ["N", "K", "W", "R"];
+
+pub fn all_words() -> Vec<String> {
+    let lengths =
+        TABLES.iter().flat_map(|table| ["too short", "too long"].map(|how| format!("{table} {how}")));
+    let sizes = SIZES
+        .iter()
+        .flat_map(|size| ["0", "one too large", "far too large"].map(|how| format!("{size} is {how}")));
+    lengths.chain(sizes).collect()
+}
+
+/// A sound pool, at times with a number spoilt: 1 is answered before 2.
+fn some_pool(random: &mut Random) -> Lent {
+    let sizes = choose_sizes(random);
+    let mut lent = written(&Draft::any(sizes, random.below(7) as u8, 30, random).pool(random));
+    if random.percent(30) {
+        lent.tables.registers[0] = u16::MAX;
+    }
+    lent
+}
+
+fn wrong_length(random: &mut Random) -> (Lent, String) {
+    let mut lent = some_pool(random);
+    let which = random.below(TABLES.len());
+    let table = each(&mut lent.tables).into_iter().nth(which).expect("there are twelve tables");
+    let length = table.len();
+    let short = random.percent(50);
+    let wrong = match (short, random.below(4)) {
+        (true, 0) => 0,
+        (true, 1) => random.below(length),
+        (true, _) => length - 1,
+        (false, 0) => 2 * length,
+        (false, 1) => length + 65_536,
+        (false, _) => length + 1,
+    };
+    table.resize(wrong, 0);
+    (lent, format!("{} {}", TABLES[which], if short { "too short" } else { "too long" }))
+}
+
+/// The tables stay as they were, or have the lengths that the wrong sizes ask for, or those that
+/// they would ask for if 16 bits were all there is.
+fn wrong_size(random: &mut Random) -> (Lent, String) {
+    let mut lent = some_pool(random);
+    let which = random.below(4);
+    let most = [LARGEST.n, LARGEST.k, LARGEST.w, LARGEST.r][which];
+    let (size, how) = match random.below(3) {
+        0 => (0, "0"),
+        1 => (most + 1, "one too large"),
+        _ => (far_above(most, random), "far too large"),
+    };
+    let s = &mut lent.sizes;
+    *[&mut s.n, &mut s.k, &mut s.w, &mut s.r][which] = size;
+    let sizes = lent.sizes;
+    match random.below(3) {
+        0 => {}
+        1 if usize::from(sizes.w) * sizes.links() < 1 << 18 => lent.tables = Tables::zeros(sizes),
+        _ => {
+            let wrapped = |a: u16, b: u16| usize::from(a.wrapping_mul(b));
+            let mut tables = Tables::zeros(yuyarisun::Sizes { n: sizes.n, k: 0, w: sizes.w, r: 0 });
+            let s = wrapped(sizes.n, sizes.k);
+            tables.values.resize(s, 0);
+            tables.changed.resize(s, 0);
+            tables.history.resize(2 * s % 65_536, 0);
+            tables.logs.resize(wrapped(sizes.w, (2 * s) as u16), 0);
+            tables.registers.resize(wrapped(sizes.w, sizes.r), 0);
+            lent.tables = tables;
+        }
+    }
+    (lent, format!("{} is {how}", SIZES[which]))
+}
+
+/// A size with which a product of 16 bits may come out small.
+fn far_above(most: u16, random: &mut Random) -> u16 {
+    let any = random.between(most + 2, u16::MAX);
+    random.pick(&[2048, 4096, 8192, 16_384, 32_768, u16::MAX, any, any])
+}
+
+pub fn run(seed: u64, reached: &mut Reached) -> Result<(), String> {
+    let mut random = Random::new(seed);
+    let (mut lent, words) =
+        if random.percent(50) { wrong_length(&mut random) } else { wrong_size(&mut random) };
+    let told = |told| format!("{words}: {told}");
+    let before = lent.clone();
+    refused(&mut lent, Refusal::WrongSize, &mut random, reached).map_err(told)?;
+    let answer = lent.fresh();
+    hold(answer == Err(Refusal::WrongSize), || told(format!("fresh: answered {answer:?}")))?;
+    same("fresh", &before, (&lent.tables, lent.collector)).map_err(told)?;
+    traces::refused(&mut lent).map_err(told)?;
+    let marks = &before.tables.used;
+    let free = marks.iter().filter(|mark| **mark == 0).count();
+    hold(lent.free_records() == free, || {
+        told(format!("free records: {} and not {free}", lent.free_records()))
+    })?;
+    reached.situation(&words);
+    Ok(())
+}
+
+/// Sizes at the ends of their ranges are taken.
+pub fn limits() -> Result<(), String> {
+    let all = |limit: [u16; 2]| limit.into_iter();
+    for n in all([1, LARGEST.n]) {
+        for k in all([1, LARGEST.k]) {
+            for w in all([1, LARGEST.w]) {
+                for r in all([1, LARGEST.r]) {
+                    let sizes = Sizes { n, k, w, r };
+                    crate::both::Both::fresh(sizes).map_err(|told| format!("{sizes:?}: {told}"))?;
+                }
+            }
+        }
+    }
+    Ok(())
+}
