@@ -27,11 +27,11 @@ use Rattle.fields.specs.Part.{longest, isTaken}
 use Rattle.fields.proofs.Tags.{either, payload-least, payload-most}
 use Rattle.fields.proofs.Order.{at-stage}
 
-or-left : (a b : Bool) → (a || b) ≡ false → a ≡ false
+pub or-left : (a b : Bool) → (a || b) ≡ false → a ≡ false
 or-left true b h = h
 or-left false b h = refl
 
-never : false ≡ true → ⊥
+pub never : false ≡ true → ⊥
 never h = let z : _≡_ {A = ℕ} 0 1 = cc in omega arith
 
 pub record TakenAt (bytes : List ℕ) (place : ℕ) (x : Read) : Type 0 where
@@ -49,7 +49,7 @@ module _ (place : ℕ) (reader : Reader) (P : Read → Type 0) (refused : (why :
       by-test true next = refused (t .why)
       by-test false next = next refl
 
-  read-holds : (bytes : List ℕ) → P (record { field = field.Nothing; next = place; reader = reader })
+  pub read-holds : (bytes : List ℕ) → P (record { field = field.Nothing; next = place; reader = reader })
       → (Unrefused (refusals bytes place reader) → P (taken bytes place reader)) → P (readAt bytes place reader)
   unfolding readAt fieldAt behindEnd
   read-holds bytes nothing done = by-stage (reader .stage)

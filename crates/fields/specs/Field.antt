@@ -7,8 +7,9 @@
 --     taken, takenOrNot, fieldAt, behindEnd     a field that nothing refuses, one whose payload is whole, any field, and what comes behind the end
 --     WholeAt                   the payload is whole
 --     readAt                    what stands at a place
+--     EventSized                how long the event field is that stands there
 -- Assumes nothing.
-use Prim.Native.Nat.{ℕ, _+_, _*_, _≤_}
+use Prim.Native.Nat.{ℕ, _+_, _*_, _≤_, _<_}
 use mathlib.Core.Path.{_≡_}
 use mathlib.Core.Bool.{Bool, true, cond, not, _||_}
 use mathlib.Core.List.{List, [], _∷_}
@@ -154,3 +155,17 @@ fieldAt bytes place reader = decide place reader (refusals bytes place reader) (
 unfoldable pub readAt : List ℕ → ℕ → Reader → Read
 readAt bytes place reader =
     elim (reader .stage) [ First ↦ fieldAt bytes place reader | Events ↦ fieldAt bytes place reader | Ended ↦ behindEnd bytes place reader ]
+
+-- so long is the event field that stands at a place behind a step; 0 where none does
+pub record EventSized (bytes : List ℕ) (place step size : ℕ) : Type 0 where
+  pub none : size ≡ 0 → (n : ℕ) (e : Event) → readAt bytes place (record { stage = Events; step = step }) .field ≡ field.Event n e → ⊥
+  pub reads : (size ≡ 0 → ⊥)
+      → _≡_ {A = Read} (readAt bytes place (record { stage = Events; step = step }))
+      (record {
+        field = field.Event (step + 1) (eventAt (byteAt bytes place) bytes (place + 7));
+        next = place + size;
+        reader = record { stage = Events; step = step + 1 };
+      })
+  pub whole : (size ≡ 0 → ⊥) → (size ≡ 3 + payloadOf (byteAt bytes place)) × (place + size ≤ length bytes)
+  -- "nothing follows 4,294,967,295"
+  pub follows : (size ≡ 0 → ⊥) → step + 1 < 4294967296

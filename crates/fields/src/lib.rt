@@ -2,7 +2,8 @@
 //     Stage, Reader      what may come next: the sizes, an event or the end, or nothing; and the last step number
 //     Field, Read        what stands at a place, the place behind it, and what may come then
 //     read_at            the field reader. It takes any bytes, any place and any state of the reader
-// Inner: payload_of, is_misplaced, two_at, four_at, sizes_at, event_at, which read a field's parts; take_field and read_field, which read a field.
+// Inner: payload_of, is_misplaced, two_at, four_at, sizes_at, event_at, which read a field's parts; take_field and read_field, which read a field; event_size, which
+// tells where an event stands, for whoever reads events one after another.
 use rules::Event;
 use rules::Refusal;
 use rules::Sizes;
@@ -10,7 +11,7 @@ use tables::place::in_range;
 ghost use mathlib.Core.Path.{_≡_};
 ghost use Prim.Native.Nat.{_+_, _≤_, _<_};
 ghost use lib.ListN.{length};
-ghost use Rattle.fields.specs.Field.{twoAt, fourAt, payloadOf, sizesAt, eventAt, misplaced, refusedAt, WholeAt, takenOrNot, fieldAt, readAt};
+ghost use Rattle.fields.specs.Field.{twoAt, fourAt, payloadOf, sizesAt, eventAt, misplaced, refusedAt, WholeAt, takenOrNot, fieldAt, readAt, EventSized};
 
 // What may come next in a trace.
 pub enum Stage {
@@ -87,7 +88,7 @@ fn four_at(bytes: &[u8], i: usize) -> u32
 }
 
 // The event of a tag, whose bytes behind the step number stand at i.
-fn event_at(tag: u8, bytes: &[u8], i: usize) -> Event
+pub fn event_at(tag: u8, bytes: &[u8], i: usize) -> Event
     requires { ⌜ i + payloadOf tag ≤ length (now bytes) + 4 ⌝ }
     ensures { λ x. ⌜ x ≡ eventAt tag (now (bytes .entry)) i ⌝ }
 {
@@ -239,4 +240,38 @@ pub fn read_at(bytes: &[u8], place: usize, reader: Reader) -> Read
         };
     }
     read_field(bytes, place, reader)
+}
+
+// How long the event field is that stands at a place behind a step; 0 where none does.
+pub fn event_size(bytes: &[u8], place: usize, step: u32) -> usize
+    ensures { λ x. ⌜ EventSized (now (bytes .entry)) place step x ⌝ }
+{
+    if bytes.len() <= place {
+        return 0;
+    }
+    let left = bytes.len() - place;
+    if left < 7 {
+        return 0;
+    }
+    let tag = bytes[place];
+    if tag == 0x01 {
+        return 0;
+    }
+    if tag == 0x7F {
+        return 0;
+    }
+    let payload = payload_of(tag);
+    if payload == 0 {
+        return 0;
+    }
+    if left < 3 + payload {
+        return 0;
+    }
+    if (two_at(bytes, place + 1) as usize) != payload {
+        return 0;
+    }
+    if (four_at(bytes, place + 3) as u64) != (step as u64) + 1 {
+        return 0;
+    }
+    3 + payload
 }

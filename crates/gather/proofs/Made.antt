@@ -1,19 +1,22 @@
 -- The records of which a worker is maker, in the tables of makers and of candidate marks.
---     mapped-next, zipped-next         a table that is changed in place, one place more
---     Below, below-none, below-all     the tables, of which the places below one are done
---     below-own, below-other           one place more
---     made-marks                       the marks of the pool that the table means
+--     mapped-next, zipped-next                a table that is changed in place, one place more
+--     byte-low, fits-cleared, fits-marked     what the code computes at one place, without a case, has 16 bits
+--     Below, below-none, below-all            the tables, of which the places below one are done
+--     below-next                              one place more
+--     made-marks                              the marks of the pool that the table means
 -- Assumes nothing.
-use Prim.Native.Nat.{ℕ, zero, suc, _+_, _≤_, _<_}
-use mathlib.Core.Path.{_≡_, refl, sym, ap, _∙_, subst₂}
+use Prim.Native.Nat.{ℕ, zero, suc, _+_, _-_, _*_, _≤_, _<_}
+use mathlib.Core.Path.{_≡_, refl, sym, ap, _∙_}
 use mathlib.Core.Bool.{Bool, true, false, cond, _||_}
 use mathlib.Core.List.{List, [], _∷_, _++_, map, zipWith, append-nil}
 use native.Mathlib.Nat.{le-of-suc-le-suc, not-suc-le-zero}
 use native.Mathlib.Numerals.{add-one}
-use borrow.Author.Tests.{eq-eqb, ne-eqb}
+use native.Mathlib.Omega.{arith}
+use mir.Syntax.{w16}
+use mir.Val.{Fits, boolByte}
 use lib.Dec.{eqb}
 use lib.ListN.{length, getD, take, drop, set, length-set, drop-of-length-le}
-use lib.Seq.{take-all, set-getD}
+use lib.Seq.{take-all}
 use Rattle.rules.specs.View.{bit}
 use Rattle.rules.specs.Sound.{Each}
 use Rattle.tables.specs.Lie.{isOn, marks, bits}
@@ -40,6 +43,28 @@ zipped-next f (a ∷ xs) [] i x h k = absurd (not-suc-le-zero k)
 zipped-next f (a ∷ xs) (b ∷ ys) zero x h k = refl
 zipped-next f (a ∷ xs) (b ∷ ys) (suc i) x h k = ap (λ t. b ∷ t) (zipped-next f xs ys i x (le-of-suc-le-suc h) (le-of-suc-le-suc k))
 
+-- ---- one place, without a case: what is multiplied by 0 is gone, and what is multiplied by 1 stays
+
+cleared : (own : Bool) (m : ℕ) → m * (1 - boolByte own) ≡ cond own 0 m
+cleared true m = omega arith
+cleared false m = omega arith
+
+marked : (own : Bool) (x : ℕ) → x * (1 - boolByte own) + boolByte own ≡ cond own 1 x
+marked true x = omega arith
+marked false x = omega arith
+
+pub byte-low : (own : Bool) → boolByte own ≤ 1
+byte-low true = omega arith
+byte-low false = omega arith
+
+pub fits-cleared : (own : Bool) (m : ℕ) → Fits w16 m → Fits w16 (m * (1 - boolByte own))
+fits-cleared true m h = omega arith
+fits-cleared false m h = omega (arith, h)
+
+pub fits-marked : (own : Bool) (x : ℕ) → Fits w16 x → Fits w16 (x * (1 - boolByte own) + boolByte own)
+fits-marked true x h = omega arith
+fits-marked false x h = omega (arith, h)
+
 -- ---- the places below one are done
 
 pub record Below (w : ℕ) (ms₀ cs₀ ms cs : List ℕ) (i : ℕ) : Type 0 where
@@ -60,25 +85,17 @@ module _ {w : ℕ} {ms₀ cs₀ ms cs : List ℕ} {i : ℕ} (below : Below w ms�
         sym (ap (λ (rest : List ℕ). take i cs ++ madeCandidates w rest (drop i cs)) none ∙ append-nil _ ∙ take-all i cs k) ∙ below .candidates,
       )
 
-  below-next : i < length ms → i < length cs → (own : Bool) → eqb (getD ms i 0) (w + 1) ≡ own
-      → Below w ms₀ cs₀ (set ms i (cond own 0 (getD ms i 0))) (set cs i (cond own 1 (getD cs i 0))) (i + 1)
+  pub below-next : i < length ms → i < length cs → (own : Bool) → eqb (getD ms i 0) (w + 1) ≡ own
+      → Below w ms₀ cs₀ (set ms i (getD ms i 0 * (1 - boolByte own))) (set cs i (getD cs i 0 * (1 - boolByte own) + boolByte own)) (i + 1)
   unfolding unmade madeCandidates
   below-next h k own e =
-      rw (add-one i, ← e)
+      rw (cleared own (getD ms i 0), marked own (getD cs i 0), add-one i, ← e)
       record {
         length-makers = length-set ms i _ ∙ below .length-makers;
         length-candidates = length-set cs i _ ∙ below .length-candidates;
         makers = mapped-next (λ m. cond (eqb m (w + 1)) 0 m) ms i h ∙ below .makers;
         candidates = zipped-next (λ m x. cond (eqb m (w + 1)) 1 x) ms cs i _ h k ∙ below .candidates;
       }
-
-  pub below-own : i < length ms → i < length cs → getD ms i 0 ≡ w + 1 → Below w ms₀ cs₀ (set ms i 0) (set cs i 1) (i + 1)
-  below-own h k e = below-next h k true (eq-eqb (getD ms i 0) (w + 1) e)
-
-  pub below-other : i < length ms → i < length cs → (getD ms i 0 ≡ w + 1 → ⊥) → Below w ms₀ cs₀ ms cs (i + 1)
-  below-other h k n =
-      subst₂ (λ (ms cs : List ℕ). Below w ms₀ cs₀ ms cs (i + 1)) (set-getD ms i 0) (set-getD cs i 0)
-      (below-next h k false (ne-eqb (getD ms i 0) (w + 1) n))
 
 -- ---- the pool
 

@@ -39,7 +39,7 @@ pub fn snoops(s: Sizes, snoops: &mut [u16], lengths: &[u16], c: Collector) -> An
     stepped(onward(c, s.w, entries))
 }
 
-// "every record of which it is maker becomes a candidate with maker 0"
+// "every record of which it is maker becomes a candidate with maker 0", without a branch: `made` is 1 at such a record and 0 at any other.
 fn made_by(candidates: &mut [u16], makers: &mut [u16], w: u16)
     requires { ⌜ (length (now candidates) ≡ length (now makers)) × (w ≤ 7) ⌝ }
     ensures { λ _. ⌜ (now (makers .exit) ≡ unmade w (now (makers .entry))) × (now (candidates .exit) ≡ madeCandidates w (now (makers .entry)) (now (candidates .entry))) ⌝ }
@@ -47,10 +47,10 @@ fn made_by(candidates: &mut [u16], makers: &mut [u16], w: u16)
     let maker = w + 1;
     let mut i = 0;
     while i < makers.len() {
-        if makers[i] == maker {
-            makers[i] = 0;
-            set_mark(candidates, i, true);
-        }
+        let made = (makers[i] == maker) as u16;
+        let other = 1 - made;
+        candidates[i] = candidates[i] * other + made;
+        makers[i] = makers[i] * other;
         i += 1;
     }
 }

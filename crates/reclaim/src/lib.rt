@@ -28,12 +28,12 @@ ghost use Rattle.tables.specs.Event.{SomePool, InPhase, Steps};
 ghost use Rattle.reclaim.specs.Lent.{searchesOn, emptiesOn, freesOn, reclaimsOn, Passing, Leaves};
 ghost use Rattle.reclaim.specs.Raw.{waits, kept};
 
-// "used candidate with count 0, not held"
+// "used candidate with count 0, not held"; the mark that is seldom on is asked first.
 fn is_waiting(used: &[u16], counts: &[u16], held: &[u16], candidates: &[u16], place: usize) -> bool
     requires { ⌜ (place < length (now used)) × (place < length (now counts)) × (place < length (now held)) × (place < length (now candidates)) ⌝ }
     ensures { λ x. ⌜ x ≡ waits (now (used .entry)) (now (counts .entry)) (now (held .entry)) (now (candidates .entry)) place ⌝ }
 {
-    is_on(used, place) & is_on(candidates, place) & (counts[place] == 0) & !is_on(held, place)
+    is_on(candidates, place) & (counts[place] == 0) & is_on(used, place) & !is_on(held, place)
 }
 
 // What phase 6 takes next: "the lowest used candidate with count 0, not held, and every changed mark among its links off; the search goes record by record and

@@ -1,6 +1,8 @@
 -- A number in decimal digits.
 --     decimal-one, decimal-more     the digits of a number below 10, and those of any other
---     length-more, decimal-most     how many there are
+--     length-more, decimal-some     how many there are
+--     decimal-most, decimal-least   between which powers of ten a number with so many stands
+--     power-some                    a power of ten is not 0
 -- Assumes nothing.
 use Prim.Native.Nat.{ℕ, zero, suc, _+_, _^_, _/_, _%_, _≤_, _<_, zero-le}
 use mathlib.Core.Path.{_≡_, sym, ap, _∙_}
@@ -55,3 +57,18 @@ digits-most (suc most) (suc m) n h =
 
 pub decimal-most : (m n : ℕ) → n < 10 ^ suc m → length (decimal n) ≤ suc m
 decimal-most m n h = digits-most 20 m n h
+
+pub decimal-some : (n : ℕ) → 1 ≤ length (decimal n)
+decimal-some n =
+    by-cases (decLt n 10)
+    (λ low. rw (digits-one 19 n low) (omega arith))
+    (λ high. rw (digits-more 19 n (omega arith)) (omega (arith, length-append (digits 19 (n / 10)) ((48 + n % 10) ∷ []))))
+
+pub power-some : (m : ℕ) → 1 ≤ 10 ^ m
+power-some zero = omega arith
+power-some (suc m) = omega (arith, power-some m)
+
+pub decimal-least : (m n : ℕ) → 10 ^ m ≤ n → n < 2 ^ 64 → suc m ≤ length (decimal n)
+decimal-least zero n h fits = decimal-some n
+decimal-least (suc m) n h fits =
+    omega (arith, length-more n (omega (arith, power-some m)) fits, decimal-least m (n / 10) (omega arith) (omega arith))

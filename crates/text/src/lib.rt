@@ -8,14 +8,15 @@ ghost use Prim.Native.Nat.{_+_, _*_, _≤_};
 ghost use lib.ListN.{length};
 ghost use Rattle.text.specs.Text.{decimal, twoText, lineText, linesText, EventsBehind, endText, refusedText, Written, StartsWith};
 
-// How many digits a number has.
+// How many digits a number has. The powers of ten are compared with a tenth of it, so that each has 64 bits.
 fn decimal_places(n: u64) -> usize
     ensures { λ x. ⌜ x ≡ length (decimal n) ⌝ }
 {
+    let tens = n / 10;
     let mut places = 1;
-    let mut rest = n;
-    while rest >= 10 {
-        rest = rest / 10;
+    let mut power = 1;
+    while power <= tens {
+        power = power * 10;
         places += 1;
     }
     places

@@ -3,6 +3,8 @@
 --     rest-starts       none is done
 --     rest-event        one is done
 --     rest-ends         none follows
+--     Going             the events of a stretch are being done
+--     going-starts, goes-on, going-ends     before the first, by the event field that stands at the place, and where none does
 -- Assumes nothing.
 use Prim.Native.Nat.{ℕ, suc, _+_, _*_, _/_, _<_, _≤_}
 use mathlib.Core.Path.{_≡_, refl, sym, ap, _∙_, subst}
@@ -25,14 +27,12 @@ use Rattle.tables.specs.Event.{Called, written, eventOn}
 use Rattle.tables.proofs.RoundTrip.{pool-of-tables, known-back, sound-known}
 use Rattle.fields.specs.declared.Field.the-variants as field
 use Rattle.fields.specs.declared.Read.{Read}
-use Rattle.fields.specs.Field.{readAt}
-use Rattle.fields.specs.Part.{isTaken}
-use Rattle.fields.proofs.Taken.{TakenAt, taken-at}
+use Rattle.fields.specs.Field.{byteAt, eventAt, readAt, EventSized}
 use Rattle.trace.specs.Replay.{Line, lineOf}
 use Rattle.trace.specs.Stretch.{Stretch, behind, stretch, linesBehind, RanOn, ranOn}
 use Rattle.trace.proofs.Put.{putFrom, Puts, put-all}
 use Rattle.trace.proofs.Turns.{stretchTurn, stretch-turn}
-use Rattle.trace.proofs.Along.{isEvent, event-follows, stretch-event, stretch-none}
+use Rattle.trace.proofs.Along.{isEvent, no-event-is, event-follows, stretch-event, stretch-none}
 
 -- a pool and events of a stretch, with so many done before
 abbrev restOf : Sizes → Pool → Stretch → ℕ → ℕ → List ℕ → RanOn
@@ -117,25 +117,28 @@ pub going-starts : {s : Sizes} {t : Tables} {c : Collector} → Known s t c → 
 going-starts known bytes place step before =
     record { known = known; half = refl; long = refl; few = omega arith; same = rest-starts known bytes place step before }
 
--- what was read
-module _ (bytes : List ℕ) (place step : ℕ) {x : Read} (read : x ≡ readAt bytes place (behind step)) where
-  pub event-lies : {n : ℕ} {e : Event} → x .field ≡ field.Event n e → TakenAt bytes place x
-  event-lies reads = subst (TakenAt bytes place) (sym read) (taken-at bytes place (behind step) (ap (λ (y : Read). isTaken (y .field)) (sym read) ∙ ap isTaken reads))
-
+-- what stands at a place: an event field of so many bytes, or none
+module _ (bytes : List ℕ) (place step : ℕ) {size : ℕ} (sized : EventSized bytes place step size) where
   module _ {s : Sizes} {whole : RanOn} {room : ℕ} {before : List ℕ} {t : Tables} {c : Collector} {done : ℕ} {answers : List ℕ} (going : Going s whole bytes room before t c place step done answers) where
-    pub goes-on : {n : ℕ} {e : Event} {y : Called} {stored : List ℕ} → x .field ≡ field.Event n e → eventOn s t c e ≡ y → Puts done answers stored (lineOf n (y .answer))
-        → Going s whole bytes room before (y .tables) (y .collector) (x .next) n (done + 1) stored
-    goes-on {n} {e} {y} {stored} reads did puts =
+    pub goes-on : {e : Event} {y : Called} {stored : List ℕ} → (size ≡ 0 → ⊥) → e ≡ eventAt (byteAt bytes place) bytes (place + 7) → eventOn s t c e ≡ y
+        → Puts done answers stored (lineOf (step + 1) (y .answer))
+        → Going s whole bytes room before (y .tables) (y .collector) (place + size) (step + 1) (done + 1) stored
+    goes-on {e} {y} {stored} some event did puts =
+        let read = sized .reads some in
         record {
           known = subst (λ (z : Called). Known s (z .tables) (z .collector)) did (known-again (going .known) bytes place step e);
           half = going .half;
           long = puts .long ∙ going .long;
-          few = omega (arith, event-lies reads .least, going .few);
+          few = omega (arith, some, going .few);
           same =
               going .same
-              ∙ rest-event (going .known) bytes place step n e (ap (λ (z : Read). z .field) (sym read) ∙ reads) done answers stored did puts
-              ∙ ap (λ (z : Read). restOn s (y .tables) (y .collector) bytes (z .next) n (done + 1) stored) (sym read);
+              ∙ rest-event (going .known) bytes place step (step + 1) e
+              (ap (λ (z : Read). z .field) read ∙ ap (field.Event (step + 1)) (sym event))
+              done answers stored did puts
+              ∙ ap (λ (z : Read). restOn s (y .tables) (y .collector) bytes (z .next) (step + 1) (done + 1) stored) read;
         }
 
-    pub going-ends : isEvent (x .field) ≡ false → whole ≡ record { ran = record { next = place; step = step; events = done; collector = c }; tables = t; answers = answers }
-    going-ends none = going .same ∙ rest-ends (going .known) bytes place step done answers (ap (λ (z : Read). isEvent (z .field)) (sym read) ∙ none)
+    pub going-ends : size ≡ 0 → whole ≡ record { ran = record { next = place; step = step; events = done; collector = c }; tables = t; answers = answers }
+    going-ends zero =
+        going .same
+        ∙ rest-ends (going .known) bytes place step done answers (no-event-is (readAt bytes place (behind step) .field) (sized .none zero))

@@ -6,6 +6,8 @@ use events::event_known;
 use fields::Field;
 use fields::Reader;
 use fields::Stage;
+use fields::event_at;
+use fields::event_size;
 use fields::read_at;
 use pool::free_records;
 use pool::fresh;
@@ -94,46 +96,37 @@ pub fn run_events(
     let mut events = 0;
     let mut collector = c;
     loop {
-        let x = read_at(
-            bytes,
-            next,
-            Reader {
-                stage: Stage::Events,
-                step: last,
-            },
-        );
-        let field = x.field;
-        match field {
-            Field::Event(n, e) => {
-                let y = event_known(
-                    s,
-                    used,
-                    counts,
-                    held,
-                    candidates,
-                    makers,
-                    values,
-                    changed,
-                    registers,
-                    snoops,
-                    logs,
-                    history,
-                    lengths,
-                    collector,
-                    e,
-                );
-                if events < room {
-                    let answer = y.answer;
-                    answers[events * 2] = number_of(answer);
-                    answers[events * 2 + 1] = value_of(answer);
-                }
-                collector = y.collector;
-                next = x.next;
-                last = n;
-                events += 1;
-            }
-            _ => break,
+        let size = event_size(bytes, next, last);
+        if size == 0 {
+            break;
         }
+        let e = event_at(bytes[next], bytes, next + 7);
+        let y = event_known(
+            s,
+            used,
+            counts,
+            held,
+            candidates,
+            makers,
+            values,
+            changed,
+            registers,
+            snoops,
+            logs,
+            history,
+            lengths,
+            collector,
+            e,
+        );
+        if events < room {
+            let answer = y.answer;
+            answers[events * 2] = number_of(answer);
+            answers[events * 2 + 1] = value_of(answer);
+        }
+        collector = y.collector;
+        next += size;
+        last += 1;
+        events += 1;
     }
     Ran {
         next,

@@ -1,7 +1,7 @@
 // The worker events of document 01, each on the tables that it touches, of a pool that is known to be sound. All of it is inner (decision 4 of
 // docs/DECISIONS.md): the call on a whole pool is `pool::event`.
 //     makes, moves, drops, loads, stores    the events; each has the name of its definition in rules/specs/Worker.antt
-//     chosen                                the record that a make takes
+//     chosen, full_before, eight_used       the record that a make takes
 //     logged, snooped                       the parts of a store that may or may not happen
 use rules::Answer;
 use rules::Collector;
@@ -20,7 +20,7 @@ use tables::place::register_place;
 use tables::place::wide;
 ghost use mathlib.Core.Path.{_≡_};
 ghost use mathlib.Core.Bool.{true, not, _&&_};
-ghost use Prim.Native.Nat.{_≤_, _<_};
+ghost use Prim.Native.Nat.{_+_, _≤_, _<_};
 ghost use lib.Dec.{leb};
 ghost use lib.ListN.{length, getD};
 ghost use Rattle.rules.specs.Size.{inRange, links};
@@ -30,6 +30,7 @@ ghost use Rattle.tables.specs.Tables.{Tables, putUsed, putRegisters};
 ghost use Rattle.tables.specs.Lie.{isOn, poolOf};
 ghost use Rattle.tables.specs.Event.{SomePool, Answers};
 ghost use Rattle.worker.specs.Lent.{makesOn, loadsOn, storesOn, logsOn, loggedOn, RoomToLog, heldAfter};
+ghost use Rattle.worker.specs.Raw.{allOn, freeFrom};
 
 // "3: no such worker, register ..": there is such a one.
 fn has_register(s: Sizes, w: u8, r: u8) -> bool
@@ -38,12 +39,42 @@ fn has_register(s: Sizes, w: u8, r: u8) -> bool
     ((w as u16) < s.w) & ((r as u16) < s.r)
 }
 
+// Whether the eight records from a place on are used, asked of all eight at once.
+fn eight_used(used: &[u16], place: usize) -> bool
+    requires { ⌜ place + 7 < length (now used) ⌝ }
+    ensures { λ x. ⌜ x ≡ allOn (now (used .entry)) place 7 ⌝ }
+{
+    is_on(used, place)
+        & is_on(used, place + 1)
+        & is_on(used, place + 2)
+        & is_on(used, place + 3)
+        & is_on(used, place + 4)
+        & is_on(used, place + 5)
+        & is_on(used, place + 6)
+        & is_on(used, place + 7)
+}
+
+// A place before which no record is free, found by eights.
+fn full_before(used: &[u16]) -> usize
+    requires { ⌜ length (now used) ≤ 1024 ⌝ }
+    ensures { λ x. ⌜ (x ≤ length (now (used .entry))) × (freeFrom (now (used .entry)) 0 ≡ freeFrom (now (used .entry)) x) ⌝ }
+{
+    let mut i = 0;
+    while i + 7 < used.len() {
+        if !eight_used(used, i) {
+            return i;
+        }
+        i += 8;
+    }
+    i
+}
+
 // What a make takes: "the lowest free record", none where none is free.
 fn chosen(used: &[u16]) -> RecordNumber
     requires { ⌜ length (now used) ≤ 1024 ⌝ }
     ensures { λ a. ⌜ ((s : Sizes) (t : Tables) (c : Collector) → a ≡ chosenIn (poolOf s (putUsed (now (used .entry)) t) c)) ⌝ }
 {
-    let mut i = 0;
+    let mut i = full_before(used);
     while i < used.len() {
         if !is_on(used, i) {
             return RecordNumber(i as u16 + 1);

@@ -1,4 +1,5 @@
-use Prim.Native.Nat.{ℕ, _-_}
+-- `trace::run_events` meets its contract: a turn does the event that stands at the place, and the last one finds that none does. Assumes nothing.
+use Prim.Native.Nat.{ℕ, _+_, _-_}
 use mathlib.Core.Path.{sym, _∙_}
 use mathlib.Core.List.{List}
 use mathlib.Core.Logic.{⊎-elim}
@@ -8,15 +9,15 @@ use borrow.Author.Needs.{needs}
 use Rattle.tables.specs.Tables.{Tables, lent}
 use Rattle.trace.specs.Replay.{lineOf}
 use Rattle.trace.specs.Stretch.{ranOn}
-use Rattle.trace.proofs.Along.{no-event-is}
 use Rattle.trace.proofs.Put.{Puts, put-here, put-past}
-use Rattle.trace.proofs.Rest.{Going, going-starts, event-lies, goes-on, going-ends}
+use Rattle.trace.proofs.Rest.{Going, going-starts, goes-on, going-ends}
 use Rattle.trace.proofs.run_events.Statement.{statement}
 use Rattle.trace.proofs.run_events.Tie as tie
 use Rattle.trace.proofs.run_events.Reads as reads
 use Rattle.trace.proofs.run_events.Lts as lts
 use Rattle.events.proofs.event_known.Reads as event-known-reads
-use Rattle.fields.proofs.read_at.Reads as read-at-reads
+use Rattle.fields.proofs.event_at.Reads as event-at-reads
+use Rattle.fields.proofs.event_size.Reads as event-size-reads
 use Rattle.reply.proofs.number_of.Reads as number-of-reads
 use Rattle.reply.proofs.value_of.Reads as value-of-reads
 
@@ -34,27 +35,40 @@ abbrev μ-loop : tie.MeasureT-loop
     length bytes - next
 
 -- the event's line is put where there is room
-line-put : (c : tie.Joined1 Inv-loop μ-loop)
+line-put : (c : tie.Joined2 Inv-loop μ-loop)
     → let at = c .before .before .before .before .before .before .before .before .before .before .before .before .before .before .before .before .before .before .before .before .before .before .before .before .before .before .before .before .before .before .before .before .before .before .before .before .before .before .before .before .before .before .loop in
-    Puts (at .events) (at .answers) (c .if1 .answers) (lineOf (c .before .before .before .before .before .before .before .before .before .before .before .before .before .before .before .before .before .before .before .before .before .before .before .before .before .before .before .before .before .before .before .before .before .before .before .before .before .before .before .field .given .0 .0) (c .before .before .before .before .before .before .before .before .before .before .before .before .before .before .before .before .before .before .before .before .before .before .before .before .before .event-known .result .answer))
+    Puts (at .events) (at .answers) (c .if2 .answers) (lineOf (at .last + 1) (c .before .before .before .before .before .before .before .before .before .before .before .before .before .before .before .before .before .before .before .before .before .before .before .before .before .event-known .result .answer))
 line-put c =
     let at = c .before .before .before .before .before .before .before .before .before .before .before .before .before .before .before .before .before .before .before .before .before .before .before .before .before .before .before .before .before .before .before .before .before .before .before .before .before .before .before .before .before .before .loop in
-    let line = lineOf (c .before .before .before .before .before .before .before .before .before .before .before .before .before .before .before .before .before .before .before .before .before .before .before .before .before .before .before .before .before .before .before .before .before .before .before .before .before .before .before .field .given .0 .0) (c .before .before .before .before .before .before .before .before .before .before .before .before .before .before .before .before .before .before .before .before .before .before .before .before .before .event-known .result .answer) in
+    let line = lineOf (at .last + 1) (c .before .before .before .before .before .before .before .before .before .before .before .before .before .before .before .before .before .before .before .before .before .before .before .before .before .event-known .result .answer) in
     ⊎-elim
     (λ w. put-here (at .events) line (omega (arith, w .0 .taken, at .inv .half, at .inv .long)) (w .1 .ensures) (w .2 .ensures) (w .3))
     (λ w. put-past (at .events) line (omega (arith, w .0 .left, at .inv .half, at .inv .long)) (w .1))
-    (c .if1 .came)
+    (c .if2 .came)
 
 loop-holds : tie.Need-loop-holds Inv-loop μ-loop
 loop-holds c =
     let start = c .before .before .before .before .before .before .before .before .before .before .before .before .before .before in
     going-starts (start .pre) (start .args .bytes .now) (start .args .place) (start .args .step) (start .args .answers .now)
 
-read-at-requires : tie.Need-read-at-requires Inv-loop μ-loop
-read-at-requires c κs = search needs
+event-size-requires : tie.Need-event-size-requires Inv-loop μ-loop
+event-size-requires c κs = search needs
 
-enum-known-field : tie.Need-enum-known-field Inv-loop μ-loop
-enum-known-field c = search needs
+shared-slice-read-event-at : tie.Need-shared-slice-read-event-at Inv-loop μ-loop
+shared-slice-read-event-at c =
+    let whole = c .before .before .event-size .ensures .whole (c .before .if1 .left) in
+    omega (arith, whole .0, whole .1)
+
+add-event-at : tie.Need-add-event-at Inv-loop μ-loop
+add-event-at c =
+    let start = c .before .before .before .before .before .before .before .before .before .before .before .before .before .before .before .before .before .before in
+    let whole = c .before .before .event-size .ensures .whole (c .before .if1 .left) in
+    omega (arith, whole .0, whole .1, start .good)
+
+event-at-requires : tie.Need-event-at-requires Inv-loop μ-loop
+event-at-requires c κs =
+    let whole = c .before .before .event-size .ensures .whole (c .before .if1 .left) in
+    omega (arith, whole .0, whole .1)
 
 event-known-requires : tie.Need-event-known-requires Inv-loop μ-loop
 event-known-requires c κs = c .before .before .before .before .before .before .before .before .before .before .before .before .before .before .before .before .loop .inv .known
@@ -106,25 +120,37 @@ slice-write-answers-2 c =
     let at = c .before .before .before .before .before .before .before .before .before .before .before .before .before .before .before .before .before .before .before .before .before .before .before .before .before .before .before .before .before .before .before .before .before .before .before .before .before .before .before .before .before .before .before .before in
     simp length-set (omega (arith, at .loop .inv .half, at .loop .inv .long))
 
+add-next : tie.Need-add-next Inv-loop μ-loop
+add-next c =
+    let at = c .before .before .before .before .before .before .before .before .before .before .before .before .before .before .before .before .before .before .before .before .before .before .before .before .before .before .before .before .before .before .before .before .before .before .before .before .before .before .before .before .before .before .before in
+    let start = at .before .before .before .before .before .before .before .before .before .before .before .before .before .before .before in
+    let whole = c .before .before .before .before .before .before .before .before .before .before .before .before .before .before .before .before .before .before .before .before .before .before .before .before .before .before .before .before .before .before .before .before .before .before .before .before .before .before .before .before .before .before .event-size .ensures .whole (c .before .before .before .before .before .before .before .before .before .before .before .before .before .before .before .before .before .before .before .before .before .before .before .before .before .before .before .before .before .before .before .before .before .before .before .before .before .before .before .before .before .if1 .left) in
+    omega (arith, whole .0, whole .1, c .before .before .before .before .before .before .before .before .before .before .before .before .before .before .before .before .before .before .before .before .before .before .before .before .before .before .before .before .before .before .before .before .before .before .before .before .before .before .before .before .before .if1 .left, at .loop .inv .few, start .good)
+
+add-last : tie.Need-add-last Inv-loop μ-loop
+add-last c =
+    omega (arith, c .before .before .before .before .before .before .before .before .before .before .before .before .before .before .before .before .before .before .before .before .before .before .before .before .before .before .before .before .before .before .before .before .before .before .before .before .before .before .before .before .before .before .event-size .ensures .follows (c .before .before .before .before .before .before .before .before .before .before .before .before .before .before .before .before .before .before .before .before .before .before .before .before .before .before .before .before .before .before .before .before .before .before .before .before .before .before .before .before .before .if1 .left))
+
 add-events : tie.Need-add-events Inv-loop μ-loop
 add-events c =
     let at = c .before .before .before .before .before .before .before .before .before .before .before .before .before .before .before .before .before .before .before .before .before .before .before .before .before .before .before .before .before .before .before .before .before .before .before .before .before .before .before .before .before .before .before in
     let start = at .before .before .before .before .before .before .before .before .before .before .before .before .before .before .before in
-    let lies = event-lies (start .args .bytes .now) (at .loop .next) (at .loop .last) (c .before .before .before .before .before .before .before .before .before .before .before .before .before .before .before .before .before .before .before .before .before .before .before .before .before .before .before .before .before .before .before .before .before .before .before .before .before .before .before .before .before .before .read-at .ensures) (c .before .before .before .before .before .before .before .before .before .before .before .before .before .before .before .before .before .before .before .before .before .before .before .before .before .before .before .before .before .before .before .before .before .before .before .before .before .before .before .before .field .given .1) in
-    omega (arith, lies .least, lies .inside, at .loop .inv .few, start .good)
+    let whole = c .before .before .before .before .before .before .before .before .before .before .before .before .before .before .before .before .before .before .before .before .before .before .before .before .before .before .before .before .before .before .before .before .before .before .before .before .before .before .before .before .before .before .event-size .ensures .whole (c .before .before .before .before .before .before .before .before .before .before .before .before .before .before .before .before .before .before .before .before .before .before .before .before .before .before .before .before .before .before .before .before .before .before .before .before .before .before .before .before .before .if1 .left) in
+    omega (arith, whole .0, whole .1, c .before .before .before .before .before .before .before .before .before .before .before .before .before .before .before .before .before .before .before .before .before .before .before .before .before .before .before .before .before .before .before .before .before .before .before .before .before .before .before .before .before .if1 .left, at .loop .inv .few, start .good)
 
 loop-less : tie.Need-loop-less Inv-loop μ-loop
 loop-less c =
     let at = c .before .before .before .before .before .before .before .before .before .before .before .before .before .before .before .before .before .before .before .before .before .before .before .before .before .before .before .before .before .before .before .before .before .before .before .before .before .before .before .before .before .before .before in
     let start = at .before .before .before .before .before .before .before .before .before .before .before .before .before .before .before in
-    let lies = event-lies (start .args .bytes .now) (at .loop .next) (at .loop .last) (c .before .before .before .before .before .before .before .before .before .before .before .before .before .before .before .before .before .before .before .before .before .before .before .before .before .before .before .before .before .before .before .before .before .before .before .before .before .before .before .before .before .before .read-at .ensures) (c .before .before .before .before .before .before .before .before .before .before .before .before .before .before .before .before .before .before .before .before .before .before .before .before .before .before .before .before .before .before .before .before .before .before .before .before .before .before .before .before .field .given .1) in
-    omega (arith, lies .least, lies .inside, at .loop .inv .few, start .good)
+    let whole = c .before .before .before .before .before .before .before .before .before .before .before .before .before .before .before .before .before .before .before .before .before .before .before .before .before .before .before .before .before .before .before .before .before .before .before .before .before .before .before .before .before .before .event-size .ensures .whole (c .before .before .before .before .before .before .before .before .before .before .before .before .before .before .before .before .before .before .before .before .before .before .before .before .before .before .before .before .before .before .before .before .before .before .before .before .before .before .before .before .before .if1 .left) in
+    omega (arith, whole .0, whole .1, c .before .before .before .before .before .before .before .before .before .before .before .before .before .before .before .before .before .before .before .before .before .before .before .before .before .before .before .before .before .before .before .before .before .before .before .before .before .before .before .before .before .if1 .left, at .loop .inv .few, start .good)
 
 loop-again : tie.Need-loop-again Inv-loop μ-loop
 loop-again c =
     let at = c .before .before .before .before .before .before .before .before .before .before .before .before .before .before .before .before .before .before .before .before .before .before .before .before .before .before .before .before .before .before .before .before .before .before .before .before .before .before .before .before .before .before .before in
     let start = at .before .before .before .before .before .before .before .before .before .before .before .before .before .before .before in
-    goes-on (start .args .bytes .now) (at .loop .next) (at .loop .last) (c .before .before .before .before .before .before .before .before .before .before .before .before .before .before .before .before .before .before .before .before .before .before .before .before .before .before .before .before .before .before .before .before .before .before .before .before .before .before .before .before .before .before .read-at .ensures) (at .loop .inv) (c .before .before .before .before .before .before .before .before .before .before .before .before .before .before .before .before .before .before .before .before .before .before .before .before .before .before .before .before .before .before .before .before .before .before .before .before .before .before .before .before .field .given .1)
+    goes-on (start .args .bytes .now) (at .loop .next) (at .loop .last) (c .before .before .before .before .before .before .before .before .before .before .before .before .before .before .before .before .before .before .before .before .before .before .before .before .before .before .before .before .before .before .before .before .before .before .before .before .before .before .before .before .before .before .event-size .ensures) (at .loop .inv) (c .before .before .before .before .before .before .before .before .before .before .before .before .before .before .before .before .before .before .before .before .before .before .before .before .before .before .before .before .before .before .before .before .before .before .before .before .before .before .before .before .before .if1 .left)
+    (c .before .before .before .before .before .before .before .before .before .before .before .before .before .before .before .before .before .before .before .before .before .before .before .before .before .before .before .before .before .before .before .before .before .before .before .before .before .before .before .event-at .ensures)
     (c .before .before .before .before .before .before .before .before .before .before .before .before .before .before .before .before .before .before .before .before .before .before .before .before .before .before .event-known .ensures)
     (line-put (c .before))
 
@@ -171,10 +197,7 @@ returns : tie.Need-returns Inv-loop μ-loop
 returns c =
     let at = c .before .before in
     let start = at .before .before .before .before .before .before .before .before .before .before .before .before .before .before .before in
-    going-ends (start .args .bytes .now) (at .loop .next) (at .loop .last) (c .before .read-at .ensures) (at .loop .inv)
-    (no-event-is (c .before .read-at .result .field)
-    (λ n e h.
-    ⊎-elim (λ z. omega arith) (⊎-elim (λ z. omega arith) (⊎-elim (λ z. omega arith) (λ z. omega arith))) (rw h at (c .match .keys2))))
+    going-ends (start .args .bytes .now) (at .loop .next) (at .loop .last) (c .before .event-size .ensures) (at .loop .inv) (c .if1 .taken)
 
 pub run-events-spec : {M : Type 1} → statement M
 run-events-spec =
@@ -183,8 +206,10 @@ run-events-spec =
     Inv-loop
     μ-loop
     loop-holds
-    read-at-requires
-    enum-known-field
+    event-size-requires
+    shared-slice-read-event-at
+    add-event-at
+    event-at-requires
     event-known-requires
     number-of-requires
     mul-answers
@@ -195,6 +220,8 @@ run-events-spec =
     add-answers
     mul-answers-4
     slice-write-answers-2
+    add-next
+    add-last
     add-events
     loop-less
     loop-again
