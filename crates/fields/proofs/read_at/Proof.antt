@@ -1,11 +1,11 @@
 -- `fields::read_at` meets its contract: behind the end field a byte is one too many, and before it a field is read. Assumes nothing.
 use mathlib.Core.Path.{_∙_}
 use mathlib.Core.Bool.{true, false}
-use mathlib.Core.Logic.{⊎-elim}
-use native.Mathlib.Omega.{arith}
+use mathlib.Core.List.{[], _∷_}
 use borrow.Author.Needs.{needs}
 use borrow.Author.Tests.{lt-ltb, le-ltb}
 use lib.ListN.{length}
+use types.Run.{miss}
 use Rattle.fields.proofs.Order.{before-end, behind-end}
 use Rattle.fields.proofs.read_at.Statement.{statement}
 use Rattle.fields.proofs.read_at.Tie as tie
@@ -39,7 +39,7 @@ returns-3 c =
     let at = c .before .before .before .args in
     c .read-field .ensures
     ∙ before-end (at .bytes .now) (at .place) (at .reader)
-    (λ e. ⊎-elim (λ z. omega arith) (λ z. omega arith) (rw e at (c .before .match .keys2)))
+    (λ e. miss (0 ∷ 1 ∷ []) 2 tt (rw e at (c .before .match .keys2)))
 
 pub read-at-spec : {M : Type 1} → statement M
 read-at-spec =
