@@ -1,7 +1,8 @@
 -- The call's own tests: what they tell of the tables, and what the call does where each of them refuses.
 --     Fitting                 sizes in range and exact lengths
 --     fits-tells, checked-known, check-is     what the two tests tell
---     wrong-shape             where the first is false: 1
+--     unfit-call, unsound-call, sound-call     any call that asks them: the first is false, the second, or none
+--     wrong-shape             of one event, where the first is false: 1
 --     not-sound               where the second is: 2
 --     known-called            where both are true the call is the event
 -- Assumes nothing.
@@ -45,25 +46,34 @@ module _ (s : Sizes) (t : Tables) where
     pub sound-checked : fits s t ≡ true → (fits s t && isSound s t c) ≡ inspected s t c
     sound-checked fit = ap (λ (b : Bool). b && isSound s t c) fit ∙ check-is fit
 
+    -- a call that asks the two tests, whatever it answers and leaves
+    module _ {A : Type 0} (does unsound unfit : A) where
+      asks : Bool → Bool → A
+      asks shape sound = cond shape (cond sound does unsound) unfit
+
+      pub unfit-call : fits s t ≡ false → cond (fits s t) (cond (isSound s t c) does unsound) unfit ≡ unfit
+      unfolding asks
+      unfit-call wrong = ap (λ (b : Bool). asks b (isSound s t c)) wrong
+
+      tested : fits s t ≡ true → {b : Bool} → inspected s t c ≡ b → cond (fits s t) (cond (isSound s t c) does unsound) unfit ≡ cond b does unsound
+      unfolding asks
+      tested fit sound = ap (λ (b : Bool). asks b (isSound s t c)) fit ∙ ap (asks true) (check-is fit ∙ sound)
+
+      pub unsound-call : fits s t ≡ true → inspected s t c ≡ false → cond (fits s t) (cond (isSound s t c) does unsound) unfit ≡ unsound
+      unsound-call fit refused = tested fit refused
+
+      pub sound-call : fits s t ≡ true → inspected s t c ≡ true → cond (fits s t) (cond (isSound s t c) does unsound) unfit ≡ does
+      sound-call fit passed = tested fit passed
+
     module _ (e : Event) where
-      shape : Bool → Called
-      shape b = cond b (cond (isSound s t c) (eventOn s t c e) (refusedOn NotSound t c)) (refusedOn WrongSize t c)
-
-      checks : Bool → Called
-      checks b = cond b (eventOn s t c e) (refusedOn NotSound t c)
-
       pub wrong-shape : fits s t ≡ false → called s t c e ≡ refusedOn WrongSize t c
-      unfolding called shape
-      wrong-shape unfit = ap shape unfit
-
-      checked : fits s t ≡ true → called s t c e ≡ checks (inspected s t c)
-      unfolding called shape checks
-      checked fit = ap shape fit ∙ ap checks (check-is fit)
+      unfolding called
+      wrong-shape = unfit-call (eventOn s t c e) (refusedOn NotSound t c) (refusedOn WrongSize t c)
 
       pub not-sound : fits s t ≡ true → inspected s t c ≡ false → called s t c e ≡ refusedOn NotSound t c
-      unfolding checks
-      not-sound fit unsound = checked fit ∙ ap checks unsound
+      unfolding called
+      not-sound = unsound-call (eventOn s t c e) (refusedOn NotSound t c) (refusedOn WrongSize t c)
 
       pub known-called : fits s t ≡ true → inspected s t c ≡ true → called s t c e ≡ eventOn s t c e
-      unfolding checks
-      known-called fit sound = checked fit ∙ ap checks sound
+      unfolding called
+      known-called = sound-call (eventOn s t c e) (refusedOn NotSound t c) (refusedOn WrongSize t c)
