@@ -16,6 +16,7 @@ use Rattle.tables.specs.Lie.{poolOf}
 use Rattle.tables.specs.Known.{Known}
 use Rattle.tables.proofs.RoundTrip.{known-back}
 use Rattle.clauses.specs.IsSound.{isSound}
+use Rattle.clauses.specs.Inspected.{inspected}
 use Rattle.pool.specs.Calls.{fits}
 use Rattle.pool.specs.Run.{LentPool, callAnswers, afterCalls}
 use Rattle.pool.proofs.Checked.{checked-known, check-is}
@@ -26,8 +27,11 @@ use Rattle.many.specs.Many.{ManyOn, done, manyOn}
 use Rattle.many.proofs.Checked.{sound-many}
 
 module _ (s : Sizes) (t : Tables) (c : Collector) (fit : fits s t ≡ true) (sound : isSound s t c ≡ true) (bytes : List ℕ) (step : ℕ) (room : List ℕ) where
+  inspects : inspected s t c ≡ true
+  inspects = sym (check-is s t c fit) ∙ sound
+
   known : Known s t c
-  known = checked-known s t c fit (sym (check-is s t c fit) ∙ sound)
+  known = checked-known s t c fit inspects
 
   -- what lies in the tables, and what the calls leave
   abbrev lentPool : LentPool
@@ -48,7 +52,7 @@ module _ (s : Sizes) (t : Tables) (c : Collector) (fit : fits s t ≡ true) (sou
   doneOn = done bytes
 
   is-done : manyOn s t c bytes step room ≡ doneOn (ranOn s t c bytes 0 step room)
-  is-done = sound-many s t c bytes step room fit sound
+  is-done = sound-many s t c bytes step room fit inspects
 
   pub many-is-calls : (manyOn s t c bytes step room .answers ≡ put room (linesBehind step (callAnswers s lentPool events)))
       × (record { tables = manyOn s t c bytes step room .tables; collector = manyOn s t c bytes step room .ran .collector } ≡ afterCalls s lentPool events)

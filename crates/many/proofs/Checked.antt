@@ -15,10 +15,9 @@ use Rattle.rules.specs.declared.Refusal.{Refusal}
 use Rattle.rules.specs.declared.Refusal.the-variants.{WrongSize, NotSound, WrongTag}
 use Rattle.rules.specs.declared.Collector.{Collector}
 use Rattle.tables.specs.Tables.{Tables}
-use Rattle.clauses.specs.IsSound.{isSound}
 use Rattle.clauses.specs.Inspected.{inspected}
 use Rattle.pool.specs.Calls.{fits}
-use Rattle.pool.proofs.Checked.{check-is}
+use Rattle.pool.proofs.Checked.{unfit-call, unsound-call, sound-call}
 use Rattle.fields.specs.declared.Field.{Field}
 use Rattle.fields.specs.declared.Field.the-variants as field
 use Rattle.fields.specs.declared.Read.{Read}
@@ -29,33 +28,25 @@ use Rattle.many.specs.declared.Rest.the-variants.{Nothing, Stopped}
 use Rattle.many.specs.Many.{restAt, ManyOn, refusedMany, done, manyOn}
 
 module _ (s : Sizes) (t : Tables) (c : Collector) (bytes : List ℕ) (step : ℕ) (room : List ℕ) where
-  checks : Bool → ManyOn
-  checks b = cond b (done bytes (ranOn s t c bytes 0 step room)) (refusedMany NotSound t c step room)
-
-  shape : Bool → ManyOn
-  shape b = cond b (checks (isSound s t c)) (refusedMany WrongSize t c step room)
+  abbrev does : ManyOn
+  does = done bytes (ranOn s t c bytes 0 step room)
 
   pub wrong-shape : fits s t ≡ false → manyOn s t c bytes step room ≡ refusedMany WrongSize t c step room
-  unfolding manyOn shape checks
-  wrong-shape unfit = ap shape unfit
-
-  checked : fits s t ≡ true → manyOn s t c bytes step room ≡ checks (inspected s t c)
-  unfolding manyOn shape checks
-  checked fit = ap shape fit ∙ ap checks (check-is s t c fit)
-
-  pub sound-many : fits s t ≡ true → isSound s t c ≡ true → manyOn s t c bytes step room ≡ done bytes (ranOn s t c bytes 0 step room)
-  unfolding manyOn shape checks
-  sound-many fit sound = ap shape fit ∙ ap checks sound
+  unfolding manyOn
+  wrong-shape = unfit-call s t c does (refusedMany NotSound t c step room) (refusedMany WrongSize t c step room)
 
   pub not-sound : fits s t ≡ true → inspected s t c ≡ false → manyOn s t c bytes step room ≡ refusedMany NotSound t c step room
-  unfolding checks
-  not-sound fit unsound = checked fit ∙ ap checks unsound
+  unfolding manyOn
+  not-sound = unsound-call s t c does (refusedMany NotSound t c step room) (refusedMany WrongSize t c step room)
+
+  pub sound-many : fits s t ≡ true → inspected s t c ≡ true → manyOn s t c bytes step room ≡ does
+  unfolding manyOn
+  sound-many = sound-call s t c does (refusedMany NotSound t c step room) (refusedMany WrongSize t c step room)
 
   pub known-many : {x : RanOn} {rest : Rest} → fits s t ≡ true → inspected s t c ≡ true → ranOn s t c bytes 0 step room ≡ x → rest ≡ restAt bytes (x .ran .next) (x .ran .step)
       → manyOn s t c bytes step room ≡ record { rest = rest; ran = x .ran; tables = x .tables; answers = x .answers }
-  unfolding checks
   known-many {x} fit sound run behind-them =
-      checked fit ∙ ap checks sound ∙ ap (done bytes) run ∙ (λ j. record { rest = sym behind-them j; ran = x .ran; tables = x .tables; answers = x .answers })
+      sound-many fit sound ∙ ap (done bytes) run ∙ (λ j. record { rest = sym behind-them j; ran = x .ran; tables = x .tables; answers = x .answers })
 
 module _ (bytes : List ℕ) (place step : ℕ) where
   -- what a field that was read there stands for

@@ -1,8 +1,6 @@
 -- What stands behind the events, by the field that was read there.
-use Prim.Native.Nat.{ℕ, _≤_}
-use mathlib.Core.Path.{_≡_}
-use mathlib.Core.Logic.{_⊎_, ⊎-elim}
-use native.Mathlib.Omega.{arith}
+use mathlib.Core.List.{[], _∷_}
+use types.Run.{miss}
 use Rattle.many.proofs.Checked.{rest-none, rest-refused, rest-other}
 use borrow.Author.Needs.{needs}
 use Rattle.many.proofs.rest_of.Statement.{statement}
@@ -10,9 +8,6 @@ use Rattle.many.proofs.rest_of.Tie as tie
 use Rattle.many.proofs.rest_of.Reads as reads
 use Rattle.many.proofs.rest_of.Lts as lts
 use Rattle.fields.proofs.read_at.Reads as read-at-reads
-
-other : (k : ℕ) → 4 ≤ k → (k ≡ 0) ⊎ ((k ≡ 1) ⊎ ((k ≡ 2) ⊎ (k ≡ 3))) → ⊥
-other k high = ⊎-elim (λ z. omega arith) (⊎-elim (λ z. omega arith) (⊎-elim (λ z. omega arith) (λ z. omega arith)))
 
 returns : tie.Need-returns
 returns c = let start = c .before .before in rest-none (start .args .bytes .now) (start .args .place) (start .args .step) (c .if1 .taken)
@@ -34,7 +29,7 @@ returns-3 c =
     let read = c .before in
     let start = read .before .before .before in
     rest-other (start .args .bytes .now) (start .args .place) (start .args .step) (read .before .if1 .left) (read .read-at .ensures)
-    (λ why at h. other 4 (omega arith) (rw h at (c .match .keys2)))
+    (λ why at h. miss (0 ∷ 1 ∷ 2 ∷ 3 ∷ []) 4 tt (rw h at (c .match .keys2)))
 
 pub rest-of-spec : {M : Type 1} → statement M
 rest-of-spec = tie.close (tie.spec returns read-at-requires enum-known-field returns-2 returns-3)

@@ -1,9 +1,8 @@
 -- `parts::take_part` meets its contract: what stands first in a trace, and the rest of it, by the laws of `First` and what `take_rest` ensures. Assumes nothing.
-use Prim.Native.Nat.{ℕ, _-_, min}
 use mathlib.Core.Path.{_≡_, refl, sym, _∙_}
 use mathlib.Core.Bool.{true, false}
-use mathlib.Core.Logic.{_⊎_, ⊎-elim}
-use native.Mathlib.Omega.{arith}
+use mathlib.Core.List.{[], _∷_}
+use types.Run.{miss}
 use borrow.Author.Needs.{needs}
 use borrow.Author.Tests.{not-true, not-false}
 use Rattle.fields.specs.declared.Stage.the-variants.{First}
@@ -28,10 +27,7 @@ fromFirst c = c .before .before .before .before .before .before .before .before 
 
 -- the sizes field has been read
 unfirst : (c : tie.At-match-keys2) → fromLater c .args .x .reader .stage ≡ First → ⊥
-unfirst c h = neither 0 refl (rw h at (c .match .keys2))
-  where
-    neither : (k : ℕ) → k ≡ 0 → (k ≡ 1) ⊎ (k ≡ 2) → ⊥
-    neither k none = ⊎-elim (λ z. omega arith) (λ z. omega arith)
+unfirst c h = miss (1 ∷ 2 ∷ []) 0 tt (rw h at (c .match .keys2))
 
 -- no field is waited for
 goes : (c : tie.Else1) → let start = fromFirst (c .before) in waits (start .args .last) (start .args .bytes .now) 0 ≡ false
@@ -211,10 +207,7 @@ returns-6 c =
     let here = start .args in
     let keys = c .before .match2 .keys3 in
     first-other (start .pre) (here .last) (here .bytes .now) (read .before .before .enum-told .given .1) (goes (read .before)) (read .read-at .ensures) (here .answers .now)
-    (λ s h. between 0 (omega arith) (rw h at keys)) (λ why at h. between 4 (omega arith) (rw h at keys)) (c .stops3 .ensures)
-  where
-    between : (k : ℕ) → min k (4 - k) ≡ 0 → (k ≡ 1) ⊎ ((k ≡ 2) ⊎ (k ≡ 3)) → ⊥
-    between k out = ⊎-elim (λ z. omega arith) (⊎-elim (λ z. omega arith) (λ z. omega arith))
+    (λ s h. miss (1 ∷ 2 ∷ 3 ∷ []) 0 tt (rw h at keys)) (λ why at h. miss (1 ∷ 2 ∷ 3 ∷ []) 4 tt (rw h at keys)) (c .stops3 .ensures)
 
 pub take-part-spec : {M : Type 1} → statement M
 take-part-spec =

@@ -1,9 +1,9 @@
 -- `parts::take_rest` meets its contract: the events are done on the pool at the arrays' beginnings, and how the trace stands behind them is asked with the free
 -- records that are left there. Assumes nothing.
-use Prim.Native.Nat.{ℕ, _≤_}
 use mathlib.Core.Path.{_≡_}
-use mathlib.Core.Logic.{_⊎_, ⊎-elim}
+use mathlib.Core.List.{[], _∷_}
 use native.Mathlib.Omega.{arith}
+use types.Run.{miss}
 use borrow.Author.Needs.{needs}
 use Rattle.fields.specs.declared.Stage.the-variants.{Ended}
 use Rattle.tables.specs.Tables.{Tables, lent}
@@ -58,10 +58,7 @@ still-inside c = let start = fromRun c in within (start .args .x .sizes) (left c
 
 -- the end field has not been read
 unended : (c : tie.After-run-front) → fromRun c .args .x .reader .stage ≡ Ended → ⊥
-unended c h = neither 2 (omega arith) (rw h at (c .before .before .before .before .before .before .before .before .before .before .before .before .before .before .match .keys2))
-  where
-    neither : (k : ℕ) → 2 ≤ k → (k ≡ 0) ⊎ (k ≡ 1) → ⊥
-    neither k high = ⊎-elim (λ z. omega arith) (λ z. omega arith)
+unended c h = miss (0 ∷ 1 ∷ []) 2 tt (rw h at (c .before .before .before .before .before .before .before .before .before .before .before .before .before .before .match .keys2))
 
 cast-n : tie.Need-cast-n
 cast-n c = search needs

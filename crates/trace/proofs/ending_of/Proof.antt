@@ -1,3 +1,4 @@
+-- `trace::ending_of` meets its contract, by each case of how a trace stands. Assumes nothing.
 use mathlib.Core.Path.{refl}
 use borrow.Author.Needs.{needs}
 use Rattle.trace.proofs.ending_of.Statement.{statement}

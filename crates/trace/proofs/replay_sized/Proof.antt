@@ -1,8 +1,9 @@
+-- `trace::replay_sized` meets its contract: `fresh` leaves a sound pool where it does not refuse, the events are done on it, and what stands behind them says how
+-- the trace ends. Assumes nothing.
 use mathlib.Core.Path.{_≡_, refl, sym, ap, _∙_}
 use mathlib.Core.List.{[], _∷_}
-use mathlib.Core.Logic.{⊎-elim}
 use native.Mathlib.Omega.{arith}
-use types.Run.{OneOf}
+use types.Run.{miss}
 use Rattle.laws.proofs.Number.{bounds}
 use Rattle.tables.specs.Tables.{Tables, lent}
 use Rattle.tables.specs.Event.{Called}
@@ -52,19 +53,12 @@ made c =
           };
     }
 
-not-eight : OneOf (0 ∷ 1 ∷ 2 ∷ 3 ∷ 4 ∷ 5 ∷ 6 ∷ 7 ∷ []) 8 → ⊥
-not-eight =
-    ⊎-elim (λ z. omega arith)
-    (⊎-elim (λ z. omega arith)
-    (⊎-elim (λ z. omega arith)
-    (⊎-elim (λ z. omega arith) (⊎-elim (λ z. omega arith) (⊎-elim (λ z. omega arith) (⊎-elim (λ z. omega arith) (λ z. omega arith)))))))
-
 -- it did not refuse
 begun : (c : tie.At-match-keys2) → let call = fromMatch c in Started (fromFresh call .args .s) (here (fromFresh call)) (made call)
 begun c =
     let call = fromMatch c in
     let start = fromFresh call in
-    fresh-starts (start .args .s) (here start) (start .args .c) (start .pre) (call .fresh .ensures) (λ why h. not-eight (rw h at (c .match .keys2)))
+    fresh-starts (start .args .s) (here start) (start .args .c) (start .pre) (call .fresh .ensures) (λ why h. miss (0 ∷ 1 ∷ 2 ∷ 3 ∷ 4 ∷ 5 ∷ 6 ∷ 7 ∷ []) 8 tt (rw h at (c .match .keys2)))
 
 fresh-requires : tie.Need-fresh-requires
 fresh-requires c κs = search needs

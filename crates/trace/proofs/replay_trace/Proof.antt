@@ -1,7 +1,7 @@
-use Prim.Native.Nat.{ℕ, _-_, min}
-use mathlib.Core.Path.{_≡_, _∙_}
-use mathlib.Core.Logic.{_⊎_, ⊎-elim}
-use native.Mathlib.Omega.{arith}
+-- `trace::replay_trace` meets its contract: an accepted sizes field goes to `replay_sized`, and anything else is refused with no table changed. Assumes nothing.
+use mathlib.Core.Path.{_∙_}
+use mathlib.Core.List.{[], _∷_}
+use types.Run.{miss}
 use Rattle.tables.specs.Tables.{Tables, lent}
 use Rattle.trace.proofs.Whole.{first-range, traced-sized, traced-refused, first-only}
 use borrow.Author.Needs.{needs}
@@ -19,9 +19,6 @@ here start =
 
 abbrev fromRead : tie.After-read-at → tie.Start
 fromRead c = c .before .before .before .before .before .before .before .before .before .before .before .before .before .before .before
-
-neither : (k : ℕ) → min k (4 - k) ≡ 0 → (k ≡ 1) ⊎ ((k ≡ 2) ⊎ (k ≡ 3)) → ⊥
-neither k out = ⊎-elim (λ z. omega arith) (⊎-elim (λ z. omega arith) (λ z. omega arith))
 
 read-at-requires : tie.Need-read-at-requires
 read-at-requires c κs = search needs
@@ -98,8 +95,8 @@ returns-3 c =
     let keys = c .match .keys3 in
     absurd
     (first-only (here start) (start .args .c) (start .args .bytes .now) (start .args .answers .now) (read .read-at .ensures)
-    (λ s h. neither 0 (omega arith) (rw h at keys))
-    (λ why at h. neither 4 (omega arith) (rw h at keys)))
+    (λ s h. miss (1 ∷ 2 ∷ 3 ∷ []) 0 tt (rw h at keys))
+    (λ why at h. miss (1 ∷ 2 ∷ 3 ∷ []) 4 tt (rw h at keys)))
 
 pub replay-trace-spec : {M : Type 1} → statement M
 replay-trace-spec =

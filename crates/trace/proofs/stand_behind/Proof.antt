@@ -1,8 +1,11 @@
+-- `trace::stand_behind` meets its contract: a turn passes over the end field; the trace waits, has ended, or stops at what stands next. Assumes nothing.
 use Prim.Native.Nat.{ℕ, _+_, _≤_}
 use mathlib.Core.Path.{_≡_, refl, sym, ap, _∙_}
 use mathlib.Core.Bool.{true, false}
-use mathlib.Core.Logic.{_⊎_, inl, inr, ⊎-elim}
+use mathlib.Core.List.{[], _∷_}
+use mathlib.Core.Logic.{⊎-elim, inl, inr}
 use native.Mathlib.Omega.{arith}
+use types.Run.{miss}
 use borrow.Author.Needs.{needs}
 use lib.Dec.{ltb}
 use lib.ListN.{length}
@@ -34,9 +37,6 @@ few c =
 -- no field is waited for
 goes : (c : tie.Else2 Inv-loop μ-loop) → waits (c .before .before .before .before .before .before .args .last) (c .before .before .before .before .before .before .args .bytes .now) (c .before .before .before .loop .next) ≡ false
 goes c = waits-are (c .before .before .before .before .before .before .args .last) (c .before .before .before .before .before .before .args .bytes .now) (c .before .before .before .loop .next) (few (c .before)) (c .if2 .left)
-
-neither : (k : ℕ) → 2 ≤ k → (k ≡ 0) ⊎ (k ≡ 1) → ⊥
-neither k high = ⊎-elim (λ z. omega arith) (λ z. omega arith)
 
 loop-holds : tie.Need-loop-holds Inv-loop μ-loop
 loop-holds c = (omega arith, refl)
@@ -132,9 +132,9 @@ loop-again-2 c =
           (c .before .before .before .before .loop-test .taken)
           (goes (c .before .before))
           (c .before .read-at .ensures)
-          (λ h. neither 2 (omega arith) (rw h at keys))
-          (λ h. neither 3 (omega arith) (rw h at keys))
-          (λ why at h. neither 4 (omega arith) (rw h at keys))
+          (λ h. miss (0 ∷ 1 ∷ []) 2 tt (rw h at keys))
+          (λ h. miss (0 ∷ 1 ∷ []) 3 tt (rw h at keys))
+          (λ why at h. miss (0 ∷ 1 ∷ []) 4 tt (rw h at keys))
           ∙ at .loop .inv .1,
     )
 
