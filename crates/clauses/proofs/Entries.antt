@@ -2,25 +2,21 @@
 --     times-length      no link stands more often among entries than there are entries
 --     times-later       a later part of a list has no more entries for a link
 --     oldIn-swapped     two lists of entries of which at most one says something of a link
---     length-logs       logs of at most so many entries each, joined
 -- Assumes nothing.
-use Prim.Native.Nat.{ℕ, _+_, _-_, _*_, _≤_, _<_, zero-le}
+use Prim.Native.Nat.{ℕ, _+_, _-_, _≤_, _<_}
 use mathlib.Core.Path.{_≡_, sym, ap, _∙_}
 use mathlib.Core.Logic.{⊎-elim}
-use mathlib.Core.List.{List, [], _∷_, zipWith, flatten}
+use mathlib.Core.List.{List, [], _∷_}
 use native.Mathlib.Omega.{arith}
-use native.Mathlib.Nat.{eq-zero-or-pos, suc-mul}
-use lib.ListN.{length, drop, length-append}
+use native.Mathlib.Nat.{eq-zero-or-pos}
+use lib.ListN.{length, drop}
 use lib.Seq.{drop-drop}
 use Rattle.rules.specs.declared.LinkNumber.{LinkNumber}
 use Rattle.rules.specs.declared.RecordNumber.{RecordNumber}
 use Rattle.rules.specs.Pool.{Entry}
 use Rattle.rules.specs.View.{standsFor, times, oldIn}
-use Rattle.rules.specs.Sound.{Each}
 use Rattle.laws.proofs.Tests.{bit-most}
 use Rattle.laws.proofs.Entries.{times-from, oldIn-absent}
-use Rattle.tables.specs.Lie.{entries}
-use Rattle.tables.proofs.Entered.{length-entries}
 
 pub times-length : (l : LinkNumber) (xs : List Entry) → times l xs ≤ length xs
 unfolding times
@@ -43,18 +39,3 @@ oldIn-swapped l xs ys a h =
     let z : times l ys ≡ 0 = omega arith in
     oldIn-absent l ys (oldIn l xs a) z ∙ ap (oldIn l xs) (sym (oldIn-absent l ys a z)))
     (eq-zero-or-pos (times l xs))
-
-pub length-logs : (most : ℕ) (lengths : List ℕ) (rooms : List (List ℕ)) → Each (λ n. n ≤ most) lengths
-    → length (flatten (zipWith entries lengths rooms)) ≤ length rooms * most
-unfolding zipWith flatten
-length-logs most [] rooms h = zero-le
-length-logs most (n ∷ lengths) [] h = zero-le
-length-logs most (n ∷ lengths) (room ∷ rooms) h =
-    omega (
-      arith,
-      length-append (entries n room) (flatten (zipWith entries lengths rooms)),
-      length-entries n room,
-      h .0,
-      length-logs most lengths rooms (h .1),
-      suc-mul (length rooms) most,
-    )

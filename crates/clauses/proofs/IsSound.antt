@@ -21,12 +21,13 @@ use Rattle.laws.proofs.Entries.{times-append}
 use Rattle.laws.proofs.Lists.{Each-at}
 use Rattle.soundness.proofs.Core.{core, sound}
 use Rattle.tables.specs.Tables.{Tables}
-use Rattle.tables.specs.Lie.{recordNumber, linkNumberOf, isOn, recordNumbers, cut, entries, room, poolOf}
+use Rattle.tables.specs.Lie.{recordNumber, linkNumberOf, isOn, recordNumbers, cut, poolOf}
 use Rattle.tables.specs.Known.{Exact, Marked, Padded, SoundTables}
 use Rattle.tables.proofs.Blocks.{length-cut, cut-sized}
+use Rattle.tables.proofs.Logs.{length-logs}
 use Rattle.clauses.specs.IsSound.{every, isMark, isMarked, isZero, isPadded, isInRange, isSoundPool, isSound}
 use Rattle.clauses.proofs.Tests.{Tells, equal-tells, most-tells, less-tells, _and_, _also_, empty-tells, unless-tells, every-tells, below-tells}
-use Rattle.clauses.proofs.Places.{everywhere, everywhere-record, every-record, length-zipped}
+use Rattle.clauses.proofs.Places.{everywhere, everywhere-record, every-record}
 
 -- ---- marks and padding
 
@@ -155,9 +156,7 @@ module _ {s : Sizes} {t : Tables} (c : Collector) (exact : Exact s t) where
                   ∙ Each-at (λ row. length row ≡ s .r) rows w [] (omega (arith, length-cut (s .w) (s .r) (t .registers)))
                   (cut-sized (s .w) (s .r) (t .registers) (exact .registers));
               snoop = length-map (t .snoops) isOn ∙ exact .snoops;
-              log =
-                  length-zipped entries (t .lengths) (cut (s .w) (room s) (t .logs)) (omega (arith, exact .lengths, length-cut (s .w) (room s) (t .logs)))
-                  ∙ length-cut (s .w) (room s) (t .logs);
+              log = length-logs s (t .logs) (t .lengths) (exact .lengths);
             };
       }
     where

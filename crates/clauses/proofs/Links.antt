@@ -28,9 +28,9 @@ use Rattle.laws.proofs.Entries.{times-from, oldIn-else, oldIn-absent, oldIn-pre
 use Rattle.laws.proofs.LookUp.{view-marked, view-unmarked, view-keeps}
 use Rattle.laws.proofs.Tally.{tally-same}
 use Rattle.tables.specs.Tables.{Tables}
-use Rattle.tables.specs.Lie.{recordNumber, linkNumberOf, cut, room, poolOf}
+use Rattle.tables.specs.Lie.{recordNumber, linkNumberOf, poolOf}
 use Rattle.tables.specs.Known.{Exact}
-use Rattle.tables.proofs.Blocks.{length-cut}
+use Rattle.tables.proofs.Logs.{all-joined-most}
 use Rattle.tables.proofs.Marks.{bit-on}
 use Rattle.tables.proofs.Stand.{history-length, value-stands, changed-stands}
 use Rattle.clauses.specs.Entered.{Noted}
@@ -39,7 +39,7 @@ use Rattle.clauses.specs.Inspected.{countedTo, unclearedFrom, notedLinks
 use Rattle.clauses.proofs.Tests.{Tells, equal-tells, less-tells, _and_, below-tells}
 use Rattle.clauses.proofs.Places.{each-everywhere, every-record}
 use Rattle.clauses.proofs.Phase.{FitsPhase, Parted, parted}
-use Rattle.clauses.proofs.Entries.{times-length, times-later, length-logs}
+use Rattle.clauses.proofs.Entries.{times-length, times-later}
 use Rattle.clauses.proofs.Noted.{noted-tells, noted-seen, noted-last}
 use Rattle.clauses.proofs.Numbers.{values-are}
 use Rattle.clauses.proofs.Tallied.{tallied-is}
@@ -116,8 +116,7 @@ module _ (s : Sizes) (t : Tables) (c : Collector) (sizes : inRange s ≡ true) (
           omega (
             arith,
             times-length l (allLogs p),
-            length-logs (links s) (t .lengths) (cut (s .w) (room s) (t .logs)) lengths,
-            ap (λ (n : ℕ). n * links s) (length-cut (s .w) (room s) (t .logs)),
+            all-joined-most s (t .logs) (t .lengths) (exact .lengths) lengths,
             mul-le-mul-right (links s) (bounds s sizes .w-most),
             low,
             ap (times l) uncleared-part,

@@ -1,13 +1,12 @@
 -- Laws on lists that speak of no test.
 --     everywhere, each-everywhere      what holds at every place of a list, and past its end
 --     everywhere-record, every-record  the same by record numbers: record a stands at place a - 1
---     length-zipped                    the length of a list made of two, of which the first may be longer
 -- Assumes nothing.
 use Prim.Native.Nat.{ℕ, zero, suc, _≤_, _<_}
-use mathlib.Core.Path.{_≡_, refl, sym, ap, subst}
+use mathlib.Core.Path.{sym, subst}
 use mathlib.Core.Logic.{_↔_, ⊎-elim}
-use mathlib.Core.List.{List, [], _∷_, zipWith}
-use native.Mathlib.Nat.{le-of-suc-le-suc, not-suc-le-zero}
+use mathlib.Core.List.{List}
+use native.Mathlib.Nat.{not-suc-le-zero}
 use lib.ListN.{length, getD, List·getD-eq-default}
 use Rattle.rules.specs.declared.RecordNumber.{RecordNumber}
 use Rattle.rules.specs.Pool.{ofRecord}
@@ -34,10 +33,3 @@ every-record P n h a some low = at a.0 some low
     at : (i : ℕ) → 1 ≤ i → i ≤ n → P (recordNumber i)
     at zero some low = absurd (not-suc-le-zero some)
     at (suc i) some low = h i low
-
-pub length-zipped : {A B C : Type 0} (f : A → B → C) (xs : List A) (ys : List B) → length ys ≤ length xs → length (zipWith f xs ys) ≡ length ys
-unfolding zipWith
-length-zipped f [] [] h = refl
-length-zipped f [] (y ∷ ys) h = absurd (not-suc-le-zero h)
-length-zipped f (x ∷ xs) [] h = refl
-length-zipped f (x ∷ xs) (y ∷ ys) h = ap suc (length-zipped f xs ys (le-of-suc-le-suc h))

@@ -1,7 +1,6 @@
 -- The check as it goes, table by table.
 --     phaseFits                    the collector's record, by how many entries the history has
 --     countedTo, unclearedFrom     where it parts the history
---     logsIn                       the logs that lie in their tables
 --     padded                       "0 in every entry past a list's length"
 --     notedLinks                   what is noted of each link after the history, the values and the logs
 --     marksMatch, countsMatch      the changed marks and the counts against what is noted
@@ -9,7 +8,7 @@
 -- Assumes nothing.
 use Prim.Native.Nat.{ℕ, suc, _*_, _%_}
 use mathlib.Core.Bool.{Bool, true, false, cond, _&&_}
-use mathlib.Core.List.{List, [], _∷_, zipWith, flatten}
+use mathlib.Core.List.{List, [], _∷_, flatten}
 use lib.Dec.{eqb, leb, ltb}
 use lib.ListN.{length, getD, take, drop, replicate}
 use lib.Seq.{paste}
@@ -18,7 +17,7 @@ use Rattle.rules.specs.declared.Collector.{Collector}
 use Rattle.rules.specs.Size.{links}
 use Rattle.rules.specs.Pool.{Entry}
 use Rattle.tables.specs.Tables.{Tables}
-use Rattle.tables.specs.Lie.{cut, entries, room}
+use Rattle.tables.specs.Lie.{entries, room, logsIn}
 use Rattle.clauses.specs.IsSound.{every, below, isMark, isZero}
 use Rattle.clauses.specs.Entered.{Noted, once, outstanding, enteredAll}
 use Rattle.clauses.specs.Tallied.{tallied, tallyOf}
@@ -39,9 +38,6 @@ countedTo c = cond (eqb (c .phase) 5) (c .position) 0
 -- "the history not yet cleared (all of it in phase 2, from the position on in phase 3, none otherwise)": it begins behind so many entries
 unfoldable pub unclearedFrom : Collector → ℕ → ℕ
 unclearedFrom c n = cond (eqb (c .phase) 2) 0 (cond (eqb (c .phase) 3) (c .position) n)
-
-abbrev pub logsIn : Sizes → List ℕ → List ℕ → List (List Entry)
-logsIn s logs lengths = zipWith entries lengths (cut (s .w) (room s) logs)
 
 -- of the logs
 unfoldable pub paddedLogs : Sizes → List ℕ → List ℕ → Bool

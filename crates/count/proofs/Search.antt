@@ -19,7 +19,7 @@ use Rattle.tables.specs.Lie.{recordNumber, entries}
 use Rattle.tables.proofs.Entered.{entryIn}
 use Rattle.laws.proofs.Entries.{times-append, times-none, oldIn-append, oldIn-absent, oldIn-present, oldIn-here}
 use Rattle.laws.proofs.LookUp.{lookUp-first}
-use Rattle.count.proofs.Rooms.{entries-take, entries-next}
+use Rattle.tables.proofs.Rooms.{entries-take, entries-next}
 
 -- ---- through a log
 

@@ -1,52 +1,28 @@
 -- What phase 5 changes of a pool, and the tables of the pool after it.
---     falls-written, rises-written, counted-written     a count falls or rises, and both for an entry
---     emptied-written                                   the history is emptied
+--     rises-written, counted-written     a count rises; one falls and another rises, for an entry
+--     emptied-written                    the history is emptied
 -- Assumes nothing.
-use Prim.Native.Nat.{ℕ, zero, suc, _-_, _*_, _≤_}
+use Prim.Native.Nat.{ℕ, _*_, _≤_}
 use mathlib.Core.Path.{_≡_, refl, sym, ap, _∙_}
-use mathlib.Core.Bool.{Bool, true, false, cond}
-use mathlib.Core.List.{List, [], _++_, map}
-use lib.Dec.{eqb}
+use mathlib.Core.List.{[], _++_, map}
 use lib.ListN.{length, drop, set, replicate, length-map}
 use lib.Seq.{set-at}
 use Rattle.rules.specs.declared.Sizes.{Sizes}
 use Rattle.rules.specs.declared.RecordNumber.{RecordNumber}
 use Rattle.rules.specs.Size.{links}
-use Rattle.rules.specs.Pool.{Entry, Pool, withRecord, countAt, withHistory}
-use Rattle.rules.specs.View.{bit, viewValue}
+use Rattle.rules.specs.Pool.{Entry, Pool, withHistory}
+use Rattle.rules.specs.View.{viewValue}
 use Rattle.rules.specs.Collect.{falls, rises, counted}
 use Rattle.tables.specs.Tables.{Tables, putCounts, putCandidates, putHistory, putLengths}
-use Rattle.tables.specs.Lie.{bits, tablesOf}
+use Rattle.tables.specs.Lie.{tablesOf}
 use Rattle.tables.specs.Counted.{fewer, fallen, more}
 use Rattle.tables.proofs.Entered.{laid-emptied}
-use Rattle.laws.proofs.Lists.{map-set}
+use Rattle.tables.proofs.Written.{falls-written}
 
--- a table of the records mapped, with another thing for one record
-map-withRecord : {A B : Type 0} (f : A → B) (xs : List A) (i : ℕ) (x : A) → map f (withRecord xs i x) ≡ withRecord (map f xs) i (f x)
-map-withRecord f xs zero x = refl
-map-withRecord f xs (suc i) x = map-set f xs i x
-
-module _ (s : Sizes) (p : Pool) where
-  abbrev t : Tables
-  t = tablesOf s p
-
-  -- "the count .. falls by 1, and at 0 it becomes a candidate"
-  pub falls-written : (a : RecordNumber) → tablesOf s (falls a p) ≡ putCounts (fewer (a .0) (t .counts)) (putCandidates (fallen (a .0) (t .counts) (t .candidates)) t)
-  unfolding tablesOf falls fewer fallen
-  falls-written a =
-      ap (λ (candidates : List ℕ). putCounts (fewer (a .0) (t .counts)) (putCandidates candidates t)) (by-zero (eqb (countAt p a - 1) 0))
-    where
-      marks : List Bool
-      marks = p .records .candidate
-
-      by-zero : (b : Bool) → bits (cond b (withRecord marks (a .0) true) marks) ≡ cond b (withRecord (bits marks) (a .0) 1) (bits marks)
-      by-zero true = map-withRecord bit marks (a .0) true
-      by-zero false = refl
-
-  -- "the count .. rises by 1"
-  pub rises-written : (a : RecordNumber) → tablesOf s (rises a p) ≡ putCounts (more (a .0) (t .counts)) t
-  unfolding tablesOf rises more
-  rises-written a = refl
+-- "the count .. rises by 1"
+pub rises-written : (s : Sizes) (p : Pool) (a : RecordNumber) → let t : Tables = tablesOf s p in tablesOf s (rises a p) ≡ putCounts (more (a .0) (t .counts)) t
+unfolding tablesOf rises more
+rises-written s p a = refl
 
 -- "first the count of old falls by 1, and at 0 it becomes a candidate; then the count of the link's view value rises by 1"
 pub counted-written : (s : Sizes) (p : Pool) (e : Entry) → let t : Tables = tablesOf s p in

@@ -1,29 +1,24 @@
 -- The look-up in the logs, on their tables.
 --     oldOr        what was found, or another value where nothing was
---     logsIn       the logs that lie in their tables
 --     OneEntry     one entry of these logs is for a link
 -- Assumes nothing.
 use Prim.Native.Nat.{ℕ, _+_, _*_, _≤_}
 use mathlib.Core.Path.{_≡_}
 use mathlib.Core.Bool.{true}
-use mathlib.Core.List.{List, zipWith, flatten}
+use mathlib.Core.List.{List, flatten}
 use lib.ListN.{length, getD}
 use Rattle.rules.specs.declared.Sizes.{Sizes}
 use Rattle.rules.specs.declared.RecordNumber.{RecordNumber}
 use Rattle.rules.specs.declared.LinkNumber.{LinkNumber}
 use Rattle.rules.specs.Size.{inRange, links}
-use Rattle.rules.specs.Pool.{Entry}
 use Rattle.rules.specs.View.{times}
-use Rattle.tables.specs.Lie.{entries, cut, room}
+use Rattle.tables.specs.Lie.{room, logsIn}
 use Rattle.count.specs.declared.Found.{Found}
 use Rattle.count.specs.declared.Found.the-variants.{Old, Nothing}
 
 abbrev pub oldOr : Found → RecordNumber → RecordNumber
 oldOr (Old a) otherwise = a
 oldOr Nothing otherwise = otherwise
-
-abbrev pub logsIn : Sizes → List ℕ → List ℕ → List (List Entry)
-logsIn s logs lengths = zipWith entries lengths (cut (s .w) (room s) logs)
 
 pub record OneEntry (s : Sizes) (table ns : List ℕ) (l : LinkNumber) : Type 0 where
   pub sizes : inRange s ≡ true

@@ -20,10 +20,10 @@ ghost use Prim.Native.Nat.{ℕ, _*_, _<_};
 ghost use lib.ListN.{length, getD};
 ghost use Rattle.rules.specs.View.{oldIn, lookUp, viewValue};
 ghost use Rattle.tables.specs.Tables.{Tables};
-ghost use Rattle.tables.specs.Lie.{isOn, entries, poolOf};
+ghost use Rattle.tables.specs.Lie.{isOn, entries, logsIn, poolOf};
 ghost use Rattle.tables.specs.Event.{InPhase, Steps};
 ghost use Rattle.count.specs.Lent.{viewsOn, countsOn};
-ghost use Rattle.count.specs.Looked.{oldOr, logsIn, OneEntry};
+ghost use Rattle.count.specs.Looked.{oldOr, OneEntry};
 
 // What a log says of a link.
 enum Found {

@@ -21,7 +21,8 @@ use Rattle.fields.specs.Field.{byteAt, twoAt, fourAt, sizesTag, endTag, 
 use Rattle.fields.specs.Part.{isTaken}
 use Rattle.fields.proofs.Order.{Headed, payload-whole, before-end}
 use Rattle.fields.proofs.Payload.{event-read}
-use Rattle.fields.proofs.Taken.{never, or-left, read-holds}
+use Rattle.laws.proofs.Tests.{never, or-left}
+use Rattle.fields.proofs.Taken.{read-holds}
 
 pub record Says (bytes : List ℕ) (place step : ℕ) : Type 0 where
   pub begins : place + 3 ≤ length bytes

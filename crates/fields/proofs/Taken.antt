@@ -6,7 +6,7 @@
 -- Assumes nothing.
 use Prim.Native.Nat.{ℕ, _+_, _≤_, _<_}
 use mathlib.Core.Path.{_≡_, refl, ap}
-use mathlib.Core.Bool.{Bool, true, false, cond, _||_}
+use mathlib.Core.Bool.{Bool, true, false, cond}
 use mathlib.Core.List.{List, [], _∷_}
 use native.Mathlib.Omega.{arith}
 use borrow.Author.Tests.{ltb-false, eqb-true, eqb-false, not-false}
@@ -16,6 +16,7 @@ use Rattle.rules.specs.declared.Event.{Event}
 use Rattle.rules.specs.declared.Refusal.{Refusal}
 use Rattle.rules.specs.declared.Refusal.the-variants.{ExtraByte}
 use Rattle.rules.specs.Outcome.{Test}
+use Rattle.laws.proofs.Tests.{never, or-left}
 use Rattle.laws.proofs.Refusals.{Unrefused}
 use Rattle.fields.specs.declared.Stage.{Stage}
 use Rattle.fields.specs.declared.Stage.the-variants.{First, Events, Ended}
@@ -26,13 +27,6 @@ use Rattle.fields.specs.Field.{byteAt, fourAt, sizesTag, endTag, payload
 use Rattle.fields.specs.Part.{longest, isTaken}
 use Rattle.fields.proofs.Tags.{either, payload-least, payload-most}
 use Rattle.fields.proofs.Order.{at-stage}
-
-pub or-left : (a b : Bool) → (a || b) ≡ false → a ≡ false
-or-left true b h = h
-or-left false b h = refl
-
-pub never : false ≡ true → ⊥
-never h = let z : _≡_ {A = ℕ} 0 1 = cc in omega arith
 
 pub record TakenAt (bytes : List ℕ) (place : ℕ) (x : Read) : Type 0 where
   pub least : place + 7 ≤ x .next

@@ -20,15 +20,15 @@ use Rattle.rules.specs.declared.Collector.{Collector}
 use Rattle.rules.specs.Size.{links}
 use Rattle.rules.specs.Pool.{Entry}
 use Rattle.tables.specs.Tables.{Tables}
-use Rattle.tables.specs.Lie.{entries}
+use Rattle.tables.specs.Lie.{entries, logsIn}
 use Rattle.laws.proofs.Number.{links-most}
 use Rattle.laws.proofs.Lists.{Each-at}
 use Rattle.clauses.specs.IsSound.{every, isMark, isZero}
 use Rattle.clauses.specs.Entered.{Noted, once, outstanding, enteredAll}
 use Rattle.clauses.specs.Tallied.{tallied}
-use Rattle.clauses.specs.Inspected.{phaseFits, countedTo, unclearedFrom, logsIn, paddedLogs, valued, notedLinks, marksMatch, countsMatch, linksFit}
+use Rattle.clauses.specs.Inspected.{phaseFits, countedTo, unclearedFrom, paddedLogs, valued, notedLinks, marksMatch, countsMatch, linksFit}
 use Rattle.inspect.specs.Lent.{Fits}
-use Rattle.inspect.proofs.Rooms.{entries-take, entries-part, entries-between}
+use Rattle.tables.proofs.Rooms.{entries-take, entries-part, entries-between}
 use Rattle.inspect.proofs.Noting.{Gives, entered-after, valued-after}
 
 -- ---- where the history is parted

@@ -20,7 +20,7 @@ use Rattle.tables.proofs.Entered.{entryIn, length-entries}
 use Rattle.clauses.specs.Entered.{Noted, entered, enteredAll}
 use Rattle.clauses.specs.Inspected.{valued}
 use Rattle.inspect.proofs.Most.{Most, most-more, most-raised}
-use Rattle.inspect.proofs.Rooms.{entries-next}
+use Rattle.tables.proofs.Rooms.{entries-next}
 
 abbrev pub Gives : (Noted → Noted) → (seen last : List ℕ) → Bool → (seen′ last′ : List ℕ) → Type 0
 Gives step seen last ok seen′ last′ = step (record { ok = true; seen = seen; last = last }) ≡ record { ok = ok; seen = seen′; last = last′ }

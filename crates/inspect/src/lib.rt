@@ -22,12 +22,12 @@ ghost use lib.ListN.{length, replicate};
 ghost use Rattle.rules.specs.Size.{inRange, links};
 ghost use Rattle.rules.specs.Sound.{Each};
 ghost use Rattle.tables.specs.Tables.{Tables, lent};
-ghost use Rattle.tables.specs.Lie.{entries, room};
+ghost use Rattle.tables.specs.Lie.{entries, room, logsIn};
 ghost use Rattle.tables.specs.Known.{Exact};
 ghost use Rattle.clauses.specs.IsSound.{every, isZero};
 ghost use Rattle.clauses.specs.Entered.{RoomFor, enteredAll};
 ghost use Rattle.clauses.specs.Tallied.{tallied};
-ghost use Rattle.clauses.specs.Inspected.{phaseFits, countedTo, unclearedFrom, logsIn, paddedLogs, valued, marksMatch, countsMatch, linksFit, numbersFit, inspected};
+ghost use Rattle.clauses.specs.Inspected.{phaseFits, countedTo, unclearedFrom, paddedLogs, valued, marksMatch, countsMatch, linksFit, numbersFit, inspected};
 ghost use Rattle.inspect.specs.Lent.{numbersOn, linksOn, LinksToFit};
 
 // Every number of a table is at most another.

@@ -4,8 +4,8 @@
 --     Each-append, Each-left, Each-right, Each-at, Each-all, Each-flatten, Each-flatten-set, Each-map, Each-map₂, Each-set, Each-places     what holds of each element
 --     set-cases                               a table of which one place is written
 --     ofRecord-same, ofRecord-other, withRecord-cases, length-withRecord     a table of the records, with another thing for one record
---     map-set, map-at                         a table mapped
---     length-zipWith, zipWith-at, getD-zipWith     a table made of two
+--     map-set, map-withRecord, map-at         a table mapped
+--     length-zipped, length-zipWith, zipWith-at, getD-zipWith     a table made of two
 --     set-keeps, set-keeps-below, set-next, map-keeps, withRecord-keeps, map-ofRecord-keeps     what holds at every place of a table
 -- Assumes nothing.
 use Prim.Native.Nat.{ℕ, zero, suc, _≤_, _<_, zero-le, suc-le-suc}
@@ -129,16 +129,25 @@ module _ {A : Type 0} where
 
 -- ---- whole tables
 
-pub length-zipWith : {A B C : Type 0} (f : A → B → C) (xs : List A) (ys : List B) → length xs ≡ length ys → length (zipWith f xs ys) ≡ length xs
+-- the first may be the longer
+pub length-zipped : {A B C : Type 0} (f : A → B → C) (xs : List A) (ys : List B) → length ys ≤ length xs → length (zipWith f xs ys) ≡ length ys
 unfolding zipWith
-length-zipWith f [] ys h = refl
-length-zipWith f (x ∷ xs) [] h = sym h
-length-zipWith f (x ∷ xs) (y ∷ ys) h = ap suc (length-zipWith f xs ys (omega arith))
+length-zipped f [] [] h = refl
+length-zipped f [] (y ∷ ys) h = absurd (not-suc-le-zero h)
+length-zipped f (x ∷ xs) [] h = refl
+length-zipped f (x ∷ xs) (y ∷ ys) h = ap suc (length-zipped f xs ys (le-of-suc-le-suc h))
+
+pub length-zipWith : {A B C : Type 0} (f : A → B → C) (xs : List A) (ys : List B) → length xs ≡ length ys → length (zipWith f xs ys) ≡ length xs
+length-zipWith f xs ys h = length-zipped f xs ys (omega arith) ∙ sym h
 
 pub map-set : {A B : Type 0} (f : A → B) (xs : List A) (i : ℕ) (x : A) → map f (set xs i x) ≡ set (map f xs) i (f x)
 map-set f [] i x = refl
 map-set f (y ∷ xs) zero x = refl
 map-set f (y ∷ xs) (suc i) x = ap (λ t. f y ∷ t) (map-set f xs i x)
+
+pub map-withRecord : {A B : Type 0} (f : A → B) (xs : List A) (i : ℕ) (x : A) → map f (withRecord xs i x) ≡ withRecord (map f xs) i (f x)
+map-withRecord f xs zero x = refl
+map-withRecord f xs (suc i) x = map-set f xs i x
 
 pub map-at : {A B : Type 0} (f : A → B) (xs : List A) (i : ℕ) (a : A) (b : B) → i < length xs → getD (map f xs) i b ≡ f (getD xs i a)
 map-at f [] i a b h = absurd (not-suc-le-zero h)

@@ -4,7 +4,7 @@
 --     decide-first, decide-next, decide-all     the outcome itself, test by test
 --     RegisterThere, LinkThere     the worker and its register, the link of the record that a register holds are there
 --     register-there, move-there, load-there, store-there     the test of an event that they are
---     can-make .. can-store   what is known where none of the tests of an event is true
+--     can-make, can-load, can-store   what is known where none of the tests of an event is true
 -- Assumes nothing.
 use Prim.Native.Nat.{ℕ, _≤_, _<_}
 use mathlib.Core.Path.{_≡_, refl, ap, _∙_}
@@ -14,7 +14,7 @@ use native.Mathlib.Omega.{arith}
 use borrow.Author.Tests.{ltb-true, eqb-false, not-false}
 use Rattle.rules.specs.declared.Sizes.{Sizes}
 use Rattle.rules.specs.declared.Refusal.{Refusal}
-use Rattle.rules.specs.declared.Event.the-variants.{Make, Move, Drop, Load, Store}
+use Rattle.rules.specs.declared.Event.the-variants.{Make, Load, Store}
 use Rattle.rules.specs.Pool.{Pool, registerAt}
 use Rattle.rules.specs.Reply.{Outcome}
 use Rattle.rules.specs.Worker.{chosen}
@@ -101,14 +101,6 @@ module _ (s : Sizes) (p : Pool) where
   can-make w r t =
       let full = eqb-false (chosen p .0) 0 (t .1 .0) in
       (register-there s w r (not-false _ (t .0)), omega arith)
-
-  pub can-move : (w r q : ℕ) → Unrefused (refusals s p (Move w r q)) → RegisterThere s w r × (q < s .r)
-  unfolding refusals
-  can-move w r q t = move-there s w r q (not-false _ (t .0))
-
-  pub can-drop : (w r : ℕ) → Unrefused (refusals s p (Drop w r)) → RegisterThere s w r
-  unfolding refusals
-  can-drop w r t = register-there s w r (not-false _ (t .0))
 
   pub can-load : (w r q f : ℕ) → Unrefused (refusals s p (Load w r q f)) → RegisterThere s w r × (q < s .r) × LinkThere s p w q f
   unfolding refusals

@@ -1,13 +1,14 @@
 -- Laws on tests and on marks as numbers.
 --     eqb-cases              a test of two numbers, and what it tells
 --     below-or-not           a number is below another, or it is not
---     and-left, and-right, and-both     two tests in one
+--     never                  a test does not pass and fail
+--     and-left, and-right, and-both, or-left     two tests in one
 --     bit-most, bit-on, bit-off         a mark as a number
 -- Assumes nothing.
 use Prim.Native.Nat.{ℕ, _≤_, _<_}
-use mathlib.Core.Path.{_≡_, refl}
+use mathlib.Core.Path.{_≡_, refl, sym}
 use mathlib.Core.Logic.{_⊎_, inl, inr}
-use mathlib.Core.Bool.{Bool, true, false, _&&_}
+use mathlib.Core.Bool.{Bool, true, false, _&&_, _||_, true≢false}
 use native.Mathlib.Omega.{arith}
 use native.Mathlib.Decide.{ℕ-discrete, decLt}
 use borrow.Author.Tests.{eq-eqb, ne-eqb}
@@ -28,13 +29,20 @@ below-or-not m n = from (decLt m n)
     from (yes h) = inl h
     from (no h) = inr (omega arith)
 
+pub never : false ≡ true → ⊥
+never h = true≢false (sym h)
+
 pub and-left : (a b : Bool) → (a && b) ≡ true → a ≡ true
 and-left true b h = refl
 and-left false b h = h
 
 pub and-right : (a b : Bool) → (a && b) ≡ true → b ≡ true
 and-right true b h = h
-and-right false b h = absurd (let z : _≡_ {A = ℕ} 0 1 = cc in omega arith)
+and-right false b h = absurd (never h)
+
+pub or-left : (a b : Bool) → (a || b) ≡ false → a ≡ false
+or-left true b h = h
+or-left false b h = refl
 
 pub bit-most : (b : Bool) → bit b ≤ 1
 bit-most true = omega arith

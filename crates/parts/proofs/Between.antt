@@ -28,13 +28,13 @@ use Rattle.fields.proofs.Taken.{TakenAt, taken-at}
 use Rattle.tables.specs.Tables.{Tables}
 use Rattle.tables.specs.Lie.{poolOf}
 use Rattle.trace.specs.declared.Ending.{Ending}
-use Rattle.trace.specs.declared.Ending.the-variants.{Whole, Stopped}
 use Rattle.trace.specs.declared.Stand.the-variants as stand
 use Rattle.trace.specs.declared.Stood.{Stood}
 use Rattle.trace.specs.Replay.{Left, untouched, stands}
 use Rattle.trace.specs.Stretch.{Stretch, behind, stretch}
-use Rattle.trace.specs.Stand.{waits, ended, stood}
+use Rattle.trace.specs.Stand.{waits, stood}
 use Rattle.trace.proofs.Comes.{readerAt, Comes, a-refusal, the-sizes, an-event, the-end, nothing, read-comes}
+use Rattle.trace.proofs.Behind.{look}
 use Rattle.trace.proofs.Along.{Runs, no-event, then-more, stretch-runs}
 use Rattle.parts.specs.declared.Progress.{Progress}
 use Rattle.parts.specs.Arrays.{front, leftIn}
@@ -90,19 +90,6 @@ few-left {last} {bytes} {x} w = ltb-true (length bytes) (x .next + longest) (and
 not-waiting : {ending : Ending} → stand.Ended ending ≡ stand.Waits → ⊥
 not-waiting h = let z : _≡_ {A = ℕ} 0 1 = cc in omega arith
 
--- a look at one field more, which waits or goes on so
-abbrev pub looks : Bool → (ℕ → Reader → Stood) → ℕ → ℕ → ℕ → Reader → Read → Stood
-looks wait onward free closed place reader x =
-    cond wait
-    (record { stand = stand.Waits; next = place; reader = reader })
-    (elim (x .field) [
-      | field.Sizes s ↦ ended (Stopped WrongTag place) place reader
-      | field.Event n e ↦ ended (Stopped WrongTag place) place reader
-      | field.End ↦ onward (x .next) (x .reader)
-      | field.Nothing ↦ ended (Whole free closed) place reader
-      | field.Refused why at ↦ ended (Stopped why at) place reader
-    ])
-
 module _ (last : Bool) (bytes : List ℕ) where
   module _ (s : Sizes) (q : Pool) where
     abbrev stoodOn : ℕ → ℕ → Reader → Stood
@@ -117,7 +104,7 @@ module _ (last : Bool) (bytes : List ℕ) where
         by-read (waits last bytes place) refl (readAt bytes place (readerAt Ended step)) (read-comes bytes place step Ended)
       where
         by-read : (wait : Bool) → waits last bytes place ≡ wait → (x : Read) → Comes bytes place step Ended x
-            → Shown (looks wait (stoodOn fields) (freeRecords q) (q .collector .closed) place (readerAt Ended step) x)
+            → Shown (look wait (stoodOn fields) (freeRecords q) (q .collector .closed) place (readerAt Ended step) x)
         by-read true e x comes = λ h. record { between = behind-end; inside = inside; waits = e }
         by-read false e x (a-refusal why) = λ h. absurd (not-waiting h)
         by-read false e x nothing = λ h. absurd (not-waiting h)
@@ -128,7 +115,7 @@ module _ (last : Bool) (bytes : List ℕ) where
         by-read (waits last bytes place) refl (readAt bytes place (behind step)) (read-comes bytes place step Events)
       where
         by-read : (wait : Bool) → waits last bytes place ≡ wait → (x : Read) → Comes bytes place step Events x
-            → Shown (looks wait (stoodOn 1) (freeRecords q) (q .collector .closed) place (behind step) x)
+            → Shown (look wait (stoodOn 1) (freeRecords q) (q .collector .closed) place (behind step) x)
         by-read true e x comes = λ h. record { between = behind-sizes; inside = inside; waits = e }
         by-read false e x (a-refusal why) = λ h. absurd (not-waiting h)
         by-read false e x (an-event event next lies) = λ h. absurd (not-waiting h)

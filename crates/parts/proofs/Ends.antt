@@ -24,8 +24,9 @@ use Rattle.trace.specs.Replay.{Left}
 use Rattle.trace.specs.Stretch.{behind, stretch}
 use Rattle.trace.specs.Stand.{waits, stood}
 use Rattle.trace.proofs.Comes.{readerAt, Comes, a-refusal, the-sizes, an-event, the-end, nothing, read-comes}
+use Rattle.trace.proofs.Behind.{look}
 use Rattle.parts.specs.Part.{Taken, restTaken, stopsAt, firstTaken, partTaken}
-use Rattle.parts.proofs.Between.{Between, before-sizes, behind-sizes, behind-end, stretched, looks, firstOf, firstWaits}
+use Rattle.parts.proofs.Between.{Between, before-sizes, behind-sizes, behind-end, stretched, firstOf, firstWaits}
 
 abbrev pub PlaceBy : ℕ → Ending → Type 0
 PlaceBy n (Whole free closed) = Unit
@@ -46,7 +47,7 @@ module _ (last : Bool) (free closed : ℕ) (bytes : List ℕ) where
       by-read : {stage : Stage} (x : Read) → Comes bytes place step stage x → (wait : Bool)
           → ((next : ℕ) (stage : Stage) → next ≤ length bytes → EndsBy (length bytes) (stood fields last free closed bytes next (readerAt stage step) .stand))
           → EndsBy (length bytes)
-          (looks wait (stood fields last free closed bytes) free closed place (readerAt stage step) x .stand)
+          (look wait (stood fields last free closed bytes) free closed place (readerAt stage step) x .stand)
       by-read x comes true onward = tt
       by-read x (a-refusal why) false onward = inside
       by-read x (the-sizes s next range lies) false onward = inside

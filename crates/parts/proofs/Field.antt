@@ -17,6 +17,7 @@ use Rattle.rules.specs.declared.Event.the-variants.{Make, Move, Drop, Load, Sto
 use Rattle.rules.specs.declared.Refusal.the-variants.{WrongSize, WrongStep, WrongCount}
 use Rattle.rules.specs.Size.{inRange}
 use Rattle.rules.specs.Outcome.{Test}
+use Rattle.laws.proofs.Tests.{never, or-left}
 use Rattle.laws.proofs.Refusals.{Unrefused}
 use Rattle.fields.specs.declared.Stage.{Stage}
 use Rattle.fields.specs.declared.Stage.the-variants.{First, Events, Ended}
@@ -29,13 +30,6 @@ use Rattle.fields.specs.Part.{longest, movedField, moved, isTaken}
 use Rattle.fields.proofs.Tags.{either, payload-least}
 use Rattle.fields.proofs.Order.{at-stage}
 use Rattle.fields.proofs.Part.{read-in-part}
-
-never : false ≡ true → ⊥
-never h = let z : _≡_ {A = ℕ} 0 1 = cc in omega arith
-
-or-left : (a b : Bool) → (a || b) ≡ false → a ≡ false
-or-left true b h = h
-or-left false b h = refl
 
 -- two choices are one where both sides are
 same-choice : {A : Type 0} (b : Bool) {x y u v : A} → (b ≡ true → x ≡ u) → (b ≡ false → y ≡ v) → cond b x y ≡ cond b u v

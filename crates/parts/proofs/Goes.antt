@@ -13,23 +13,24 @@ use lib.ListN.{length}
 use Rattle.rules.specs.declared.Sizes.{Sizes}
 use Rattle.rules.specs.declared.Refusal.the-variants.{WrongSize}
 use Rattle.rules.specs.Pool.{Pool, fresh}
-use Rattle.rules.specs.Outcome.{outcome, answers, after, freeRecords}
+use Rattle.rules.specs.Outcome.{answers, after, freeRecords}
 use Rattle.fields.specs.declared.Stage.the-variants.{First, Events, Ended}
 use Rattle.fields.specs.declared.Reader.{Reader}
 use Rattle.fields.specs.declared.Read.{Read}
 use Rattle.fields.specs.Field.{readAt}
-use Rattle.fields.specs.Part.{longest, isTaken}
+use Rattle.fields.specs.Part.{longest}
 use Rattle.trace.specs.declared.Stand.the-variants as stand
 use Rattle.trace.specs.declared.Stood.{Stood}
-use Rattle.trace.specs.Replay.{Left, untouched, stands, Replayed, stops, lineOf, withLine}
-use Rattle.trace.specs.Stretch.{Stretch, behind, stretch, linesBehind}
+use Rattle.trace.specs.Replay.{Left, untouched, stands, Replayed, stops, withLines}
+use Rattle.trace.specs.Stretch.{behind, stretch, linesBehind}
 use Rattle.trace.specs.Stand.{waits, stood}
 use Rattle.trace.proofs.Comes.{readerAt, Comes, a-refusal, the-sizes, an-event, the-end, nothing, read-comes}
 use Rattle.trace.proofs.Turns.{Onward, turn}
-use Rattle.trace.proofs.Along.{isEvent, Runs, no-event, then-more, stretch-runs, stretch-ends, withLines, goesOn, goes-on-turn}
+use Rattle.trace.proofs.Behind.{look}
+use Rattle.trace.proofs.Along.{isEvent, stretch-runs, stretch-ends, goesOn, goes-on-turn, goes-along}
 use Rattle.parts.specs.Part.{Taken, restTaken, stopsAt, firstTaken, partTaken}
 use Rattle.parts.proofs.Field.{taken-in-part, read-in-front}
-use Rattle.parts.proofs.Between.{Between, before-sizes, behind-sizes, behind-end, looks, firstOf, firstWaits}
+use Rattle.parts.proofs.Between.{Between, before-sizes, behind-sizes, behind-end, firstOf, firstWaits}
 
 abbrev pub goesFrom : Onward → Left → Stood → Replayed
 goesFrom onward left x =
@@ -49,19 +50,6 @@ module _ (takes : Sizes → Bool) (last : Bool) (part more : List ℕ) (whole : 
   abbrev onward : Onward
   onward = goesOn takes (part ++ more)
 
-  -- ---- the events
-
-  goes-along : (s : Sizes) (p : Pool) {place step : ℕ} (x : Stretch) → Runs part place step x
-      → onward place (behind step) (stands s p)
-      ≡ withLines (linesBehind step (answers s p (x .events))) (onward (x .next) (behind (x .step)) (stands s (after s p (x .events))))
-  unfolding linesBehind answers after
-  goes-along s p x (no-event none) = refl
-  goes-along s p x (then-more {place = place} {step = step} {e = e} {rest = rest} read later) =
-      let o = outcome s p e in
-      goes-on-turn takes (part ++ more) place step Events (stands s p)
-      ∙ ap (turn takes onward place (stands s p)) (taken-in-part part more place (behind step) (ap (λ (y : Read). isTaken (y .field)) read) ∙ read)
-      ∙ ap (withLine (lineOf (suc step) (o .answer))) (goes-along s (o .pool) rest later)
-
   -- ---- what comes behind them
 
   module _ (s : Sizes) (q : Pool) where
@@ -75,14 +63,14 @@ module _ (takes : Sizes → Bool) (last : Bool) (part more : List ℕ) (whole : 
       where
         by-read : (x : Read) → Comes part place step Ended x
             → turn takes onward place (stands s q) x
-            ≡ goesFrom onward (stands s q) (looks false (stoodOn fields) (freeRecords q) (q .collector .closed) place (readerAt Ended step) x)
+            ≡ goesFrom onward (stands s q) (look false (stoodOn fields) (freeRecords q) (q .collector .closed) place (readerAt Ended step) x)
         by-read x (a-refusal why) = refl
         by-read x nothing = refl
 
         by-wait : (wait : Bool) → waits last part place ≡ wait
             → onward place (readerAt Ended step) (stands s q)
             ≡ goesFrom onward (stands s q)
-            (looks wait (stoodOn fields) (freeRecords q) (q .collector .closed) place (readerAt Ended step) (readAt part place (readerAt Ended step)))
+            (look wait (stoodOn fields) (freeRecords q) (q .collector .closed) place (readerAt Ended step) (readAt part place (readerAt Ended step)))
         by-wait true e = refl
         by-wait false e =
             goes-on-turn takes (part ++ more) place step Ended (stands s q)
@@ -96,7 +84,7 @@ module _ (takes : Sizes → Bool) (last : Bool) (part more : List ℕ) (whole : 
       where
         by-read : (x : Read) → Comes part place step Events x → isEvent (x .field) ≡ false
             → turn takes onward place (stands s q) x
-            ≡ goesFrom onward (stands s q) (looks false (stoodOn 1) (freeRecords q) (q .collector .closed) place (behind step) x)
+            ≡ goesFrom onward (stands s q) (look false (stoodOn 1) (freeRecords q) (q .collector .closed) place (behind step) x)
         by-read x (a-refusal why) none = refl
         by-read x (an-event e next lies) none = absurd (let z : _≡_ {A = ℕ} 0 1 = cc in omega arith)
         by-read x (the-end next lies) none = ended-goes 0 next step
@@ -104,7 +92,7 @@ module _ (takes : Sizes → Bool) (last : Bool) (part more : List ℕ) (whole : 
         by-wait : (wait : Bool) → waits last part place ≡ wait
             → onward place (behind step) (stands s q)
             ≡ goesFrom onward (stands s q)
-            (looks wait (stoodOn 1) (freeRecords q) (q .collector .closed) place (behind step) (readAt part place (behind step)))
+            (look wait (stoodOn 1) (freeRecords q) (q .collector .closed) place (behind step) (readAt part place (behind step)))
         by-wait true e = refl
         by-wait false e =
             goes-on-turn takes (part ++ more) place step Events (stands s q)
@@ -118,7 +106,7 @@ module _ (takes : Sizes → Bool) (last : Bool) (part more : List ℕ) (whole : 
   unfolding restTaken
   rest-goes s p place step =
       let x = stretch part place step in
-      goes-along s p x (stretch-runs part place step)
+      goes-along takes (part ++ more) part (taken-in-part part more) s p x (stretch-runs part place step)
       ∙ ap (withLines (linesBehind step (answers s p (x .events)))) (events-go s (after s p (x .events)) (x .next) (x .step) (stretch-ends part place step))
 
   rest-ended : (s : Sizes) (p : Pool) (place step : ℕ)

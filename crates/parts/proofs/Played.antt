@@ -15,10 +15,10 @@ use Rattle.trace.specs.declared.Ending.the-variants.{Stopped}
 use Rattle.trace.specs.declared.Stand.{Stand}
 use Rattle.trace.specs.declared.Stand.the-variants as stand
 use Rattle.trace.specs.declared.Stood.{Stood}
-use Rattle.trace.specs.Replay.{Left, untouched, Replayed, atStart, replayed}
+use Rattle.trace.specs.Replay.{Left, untouched, Replayed, withLines, atStart, replayed}
 use Rattle.trace.specs.Stand.{waits}
-use Rattle.trace.proofs.Along.{withLines, goesOn}
-use Rattle.parts.specs.Part.{Taken, partTaken, movedEnding, over, linesBefore, played}
+use Rattle.trace.proofs.Along.{goesOn}
+use Rattle.parts.specs.Part.{Taken, partTaken, movedEnding, over, played}
 use Rattle.parts.proofs.Behind.{movedReplay, unmoved-replay, moved-again, goes-behind}
 use Rattle.parts.proofs.Between.{Between, before-sizes, WaitsAt, part-waits}
 use Rattle.parts.proofs.Goes.{goesFrom, part-goes}
@@ -82,7 +82,7 @@ module _ (takes : Sizes → Bool) where
       by-stand : (st : Stand) → x .stood .stand ≡ st
           → elim st [
             | stand.Ended ending ↦ over base x ending
-            | stand.Waits ↦ linesBefore (x .lines) (played takes pieces (base + x .stood .next) (drop (x .stood .next) part) (x .stood .reader) (x .left))
+            | stand.Waits ↦ withLines (x .lines) (played takes pieces (base + x .stood .next) (drop (x .stood .next) part) (x .stood .reader) (x .left))
           ]
           ≡ movedReplay base (goesOnSo (part ++ flatten pieces) x st)
       by-stand (stand.Ended ending) e = λ k. record { lines = sym (append-nil (x .lines)) k; ending = movedEnding base ending; left = x .left }

@@ -14,8 +14,8 @@ use Rattle.text.specs.Text.{lineText}
 use Rattle.trace.specs.declared.Ending.the-variants.{Stopped}
 use Rattle.trace.specs.declared.Stand.{Stand}
 use Rattle.trace.specs.declared.Stand.the-variants as stand
-use Rattle.trace.specs.Replay.{Line, Left, untouched, Replayed, atStart, replayed}
-use Rattle.parts.specs.Part.{Taken, partTaken, movedEnding, over, linesBefore, played}
+use Rattle.trace.specs.Replay.{Line, Left, untouched, Replayed, withLines, atStart, replayed}
+use Rattle.parts.specs.Part.{Taken, partTaken, movedEnding, over, played}
 use Rattle.parts.specs.Printed.{linesPrinted, endingPrinted, replayPrinted, printed}
 use Rattle.parts.proofs.Played.{played-is-replayed}
 
@@ -26,7 +26,7 @@ lines-printed (line ∷ first) second =
     ap (λ (text : List ℕ). lineText (line .step) (line .number) (line .value) ++ text) (lines-printed first second)
     ∙ sym (append-assoc (lineText (line .step) (line .number) (line .value)) (linesPrinted first) (linesPrinted second))
 
-before-printed : (lines : List Line) (x : Replayed) → linesPrinted lines ++ replayPrinted x ≡ replayPrinted (linesBefore lines x)
+before-printed : (lines : List Line) (x : Replayed) → linesPrinted lines ++ replayPrinted x ≡ replayPrinted (withLines lines x)
 unfolding replayPrinted
 before-printed lines x =
     sym (append-assoc (linesPrinted lines) (linesPrinted (x .lines)) (endingPrinted (x .ending)))
@@ -64,7 +64,7 @@ module _ (takes : Sizes → Bool) where
 
       by-stand : (st : Stand) → textLater ≡ replayPrinted later
           → linesPrinted (x .lines) ++ elim st [ stand.Ended ending ↦ endingPrinted (movedEnding base ending) | stand.Waits ↦ textLater ]
-          ≡ replayPrinted (elim st [ stand.Ended ending ↦ over base x ending | stand.Waits ↦ linesBefore (x .lines) later ])
+          ≡ replayPrinted (elim st [ stand.Ended ending ↦ over base x ending | stand.Waits ↦ withLines (x .lines) later ])
       by-stand (stand.Ended ending) same = refl
       by-stand stand.Waits same = ap (λ (text : List ℕ). linesPrinted (x .lines) ++ text) same ∙ before-printed (x .lines) later
 

@@ -16,13 +16,12 @@ use lib.ListN.{length}
 use Rattle.rules.specs.declared.Sizes.{Sizes}
 use Rattle.rules.specs.declared.Collector.{Collector}
 use Rattle.rules.specs.Pool.{Pool}
-use Rattle.rules.specs.Outcome.{answers, after, freeMarks, freeRecords}
+use Rattle.rules.specs.Outcome.{answers, after, freeMarks}
 use Rattle.rules.specs.Sound.{Sound}
 use Rattle.laws.proofs.Runs.{run-keeps}
 use Rattle.soundness.proofs.Kept.{event-keeps-sound}
 use Rattle.tables.specs.Tables.{Tables}
-use Rattle.tables.specs.Lie.{marks, poolOf, tablesOf}
-use Rattle.tables.proofs.Marks.{marks-bits}
+use Rattle.tables.specs.Lie.{marks, poolOf}
 use Rattle.tables.proofs.RoundTrip.{pool-of-tables, known-back}
 use Rattle.fields.specs.declared.Stage.{Stage}
 use Rattle.fields.specs.declared.Stage.the-variants.{First, Events, Ended}
@@ -35,15 +34,15 @@ use Rattle.trace.specs.Replay.{Left, untouched, stands}
 use Rattle.trace.specs.Stretch.{Stretch, behind, stretch, linesBehind, put, RanOn, ranOn}
 use Rattle.trace.specs.Stand.{waits, stood, standBehind}
 use Rattle.trace.proofs.Comes.{readerAt, Comes, a-refusal, the-sizes, an-event, the-end, nothing, read-comes}
+use Rattle.trace.proofs.Behind.{look}
 use Rattle.trace.proofs.Along.{Runs, no-event, then-more, stretch-runs}
-use Rattle.trace.proofs.Sized.{length-lines}
+use Rattle.trace.proofs.Sized.{length-lines, free-written}
 use Rattle.parts.specs.declared.Progress.{Progress}
 use Rattle.parts.specs.declared.Part.{Part}
 use Rattle.parts.specs.Part.{Taken, standOn, restTaken}
 use Rattle.parts.specs.Arrays as arrays
 use Rattle.parts.specs.Arrays.{front, leftIn, Long, Holds, Later, HoldsAt, Takes}
 use Rattle.parts.proofs.Front.{ran-known}
-use Rattle.parts.proofs.Between.{looks}
 
 -- ---- behind the events
 
@@ -61,7 +60,7 @@ module _ (last : Bool) (free closed : ℕ) (bytes : List ℕ) where
       by-read : {stage : Stage} (x : Read) → Comes bytes place step stage x → (wait : Bool) → Later stage
           → ((next : ℕ) (stage : Stage) → Later stage → Stays step (stood fields last free closed bytes next (readerAt stage step)))
           → Stays step
-          (looks wait (stood fields last free closed bytes) free closed place (readerAt stage step) x)
+          (look wait (stood fields last free closed bytes) free closed place (readerAt stage step) x)
       by-read x comes true later onward = record { later = later; step = refl }
       by-read x (a-refusal why) false later onward = record { later = later; step = refl }
       by-read x (the-sizes s next range lies) false later onward = absurd later
@@ -106,11 +105,6 @@ module _ (last : Bool) (bytes : List ℕ) (place : ℕ) (reader : Reader) (s : S
   pub rest-ended : reader .stage ≡ Ended → restTaken last bytes place reader s p ≡ endedTaken
   unfolding restTaken
   rest-ended closed = ap (λ (stage : Stage). elim stage [ First ↦ eventsTaken | Events ↦ eventsTaken | Ended ↦ endedTaken ]) closed
-
--- the free records, counted in the table of a pool
-free-written : (s : Sizes) (q : Pool) → freeRecords q ≡ freeMarks (marks (tablesOf s q .used))
-unfolding freeRecords tablesOf
-free-written s q = ap freeMarks (sym (marks-bits (q .records .used)))
 
 -- ---- behind the sizes field a pool lies in the arrays
 

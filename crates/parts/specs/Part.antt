@@ -22,7 +22,7 @@ use Rattle.trace.specs.declared.Ending.{Ending}
 use Rattle.trace.specs.declared.Ending.the-variants.{Whole, Stopped}
 use Rattle.trace.specs.declared.Stand.the-variants as stand
 use Rattle.trace.specs.declared.Stood.{Stood}
-use Rattle.trace.specs.Replay.{Line, Left, untouched, stands, Replayed}
+use Rattle.trace.specs.Replay.{Line, Left, untouched, stands, Replayed, withLines}
 use Rattle.trace.specs.Stretch.{Stretch, behind, stretch, linesBehind}
 use Rattle.trace.specs.Stand.{waits, ended, standBehind}
 
@@ -85,9 +85,6 @@ movedEnding base (Stopped why place) = Stopped why (base + place)
 abbrev pub over : ℕ → Taken → Ending → Replayed
 over base x ending = record { lines = x .lines; ending = movedEnding base ending; left = x .left }
 
-abbrev pub linesBefore : List Line → Replayed → Replayed
-linesBefore lines x = record { lines = lines ++ x .lines; ending = x .ending; left = x .left }
-
 -- the bytes arrive in so many pieces: each is put behind what is left of the part before. The last part is what is left when no more bytes come
 unfoldable pub played : (Sizes → Bool) → List (List ℕ) → ℕ → List ℕ → Reader → Left → Replayed
 played takes [] base rest reader left =
@@ -98,5 +95,5 @@ played takes (piece ∷ pieces) base rest reader left =
     let x : Taken = partTaken takes false part reader left in
     elim (x .stood .stand) [
       | stand.Ended ending ↦ over base x ending
-      | stand.Waits ↦ linesBefore (x .lines) (played takes pieces (base + x .stood .next) (drop (x .stood .next) part) (x .stood .reader) (x .left))
+      | stand.Waits ↦ withLines (x .lines) (played takes pieces (base + x .stood .next) (drop (x .stood .next) part) (x .stood .reader) (x .left))
     ]

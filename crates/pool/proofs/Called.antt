@@ -4,7 +4,7 @@
 --     run-lies            after any events from a fresh pool its tables and the collector's record stand for the run's pool
 --     run-answers         and the answers are the run's
 -- Assumes nothing.
-use mathlib.Core.Path.{_≡_, refl, sym, ap, _∙_}
+use mathlib.Core.Path.{_≡_, refl, ap, _∙_}
 use mathlib.Core.Bool.{Bool, true, cond}
 use mathlib.Core.List.{List, [], _∷_}
 use Rattle.rules.specs.declared.Sizes.{Sizes}
@@ -17,7 +17,7 @@ use Rattle.rules.specs.Outcome.{outcome, answers, after}
 use Rattle.rules.specs.Sound.{Sound}
 use Rattle.laws.proofs.Tests.{and-both}
 use Rattle.soundness.proofs.Kept.{event-keeps-sound}
-use Rattle.tables.specs.Lie.{poolOf, tablesOf}
+use Rattle.tables.specs.Lie.{tablesOf}
 use Rattle.tables.specs.Event.{Called, written, eventOn}
 use Rattle.tables.proofs.RoundTrip.{pool-of-tables, sound-known}
 use Rattle.clauses.specs.IsSound.{isSound}

@@ -16,7 +16,7 @@ use Rattle.rules.specs.Size.{inRange}
 use Rattle.laws.proofs.Tests.{and-left, and-right}
 use Rattle.tables.specs.Tables.{Tables}
 use Rattle.tables.specs.Known.{Exact, Known}
-use Rattle.tables.specs.Event.{Called, eventOn}
+use Rattle.tables.specs.Event.{eventOn}
 use Rattle.clauses.specs.IsSound.{isSound}
 use Rattle.clauses.specs.Inspected.{inspected}
 use Rattle.clauses.proofs.Exactly.{inspected-exactly, inspected-is}

@@ -9,7 +9,7 @@
 --     lost-is-freed              what was lost when a cycle opened, loops aside, is freed in that cycle
 -- Assumes nothing.
 use Prim.Native.Nat.{ℕ, _≤_}
-use mathlib.Core.Path.{_≡_, refl, sym, ap, _∙_, subst}
+use mathlib.Core.Path.{_≡_, sym, ap, _∙_, subst}
 use mathlib.Core.Bool.{Bool, true, false, cond}
 use mathlib.Core.List.{List, _∷_}
 use Rattle.rules.specs.declared.Sizes.{Sizes}

@@ -3,8 +3,8 @@
 --     never-one-two-six  so an event's number is none of these
 -- Assumes nothing.
 use Prim.Native.Nat.{ℕ}
-use mathlib.Core.Path.{_≡_, refl, sym, ap, _∙_}
-use mathlib.Core.Bool.{Bool, true, false, cond, not, _&&_}
+use mathlib.Core.Path.{_≡_, refl}
+use mathlib.Core.Bool.{Bool, true, false, cond, _&&_}
 use mathlib.Core.List.{List, [], _∷_}
 use native.Mathlib.Omega.{arith}
 use borrow.Author.Tests.{not-true, not-false, leb-true, eqb-false}
@@ -19,7 +19,7 @@ use Rattle.rules.specs.Reply.{Outcome, number, refusalNumber}
 use Rattle.rules.specs.Worker.{mustLog, makes, moves, drops, loads, stores}
 use Rattle.rules.specs.Collect.{opens, snoops, takes, clears, scans, counts, collects}
 use Rattle.rules.specs.Outcome.{Test, noSuch, hasWorker, hasRegister, hasLink, holdsNone, noneFree, logFull, refusals, refused, decide, does, outcome}
-use Rattle.rules.specs.Sound.{Each, Sound}
+use Rattle.rules.specs.Sound.{Sound}
 use Rattle.laws.proofs.Tests.{and-left, and-right}
 use Rattle.laws.proofs.Phases.{by-phase}
 use Rattle.laws.proofs.Search.{reclaims-cases}

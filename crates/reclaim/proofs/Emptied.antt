@@ -1,54 +1,32 @@
 -- The links of a record, emptied in tables.
---     falls-written       a count falls
 --     emptiedTables, emptied-written     one link is emptied
 --     emptied-first, emptied-next        no link is emptied yet; one link more is
 --     Fit, value-fits     the value of the next link is within the tables, and its count may fall
 --     freedTables, freed-next     the record is freed, once its links are emptied
 -- Assumes nothing.
-use Prim.Native.Nat.{ℕ, zero, suc, _+_, _-_, _≤_, _<_}
+use Prim.Native.Nat.{ℕ, zero, suc, _+_, _≤_, _<_}
 use mathlib.Core.Path.{_≡_, refl, sym, ap, _∙_, subst}
 use mathlib.Core.Logic.{⊎-elim}
-use mathlib.Core.Bool.{Bool, true, false, cond}
-use mathlib.Core.List.{List, map}
+use mathlib.Core.Bool.{false}
 use native.Mathlib.Omega.{arith}
 use native.Mathlib.Numerals.{add-one}
-use lib.Dec.{eqb}
 use lib.ListN.{getD, set, List·getD-map}
 use Rattle.rules.specs.declared.Sizes.{Sizes}
 use Rattle.rules.specs.declared.RecordNumber.{RecordNumber}
 use Rattle.rules.specs.declared.LinkNumber.{LinkNumber}
 use Rattle.rules.specs.declared.Collector.{Collector}
 use Rattle.rules.specs.Size.{linkNumber}
-use Rattle.rules.specs.Pool.{Pool, none, ofRecord, withRecord, countAt, valueAt}
+use Rattle.rules.specs.Pool.{Pool, none, ofRecord, withRecord, valueAt}
 use Rattle.rules.specs.View.{bit}
 use Rattle.rules.specs.Collect.{falls, emptied, emptiedFrom, frees}
 use Rattle.tables.specs.Tables.{Tables, putUsed, putCounts, putCandidates, putValues}
-use Rattle.tables.specs.Lie.{bits, poolOf, tablesOf}
+use Rattle.tables.specs.Lie.{poolOf, tablesOf}
 use Rattle.tables.specs.Counted.{fewer, fallen}
-use Rattle.tables.proofs.Written.{value-written}
-use Rattle.laws.proofs.Lists.{map-set}
+use Rattle.tables.proofs.Written.{value-written, falls-written}
+use Rattle.laws.proofs.Lists.{map-withRecord}
 use Rattle.laws.proofs.Change.{emptied-values}
 use Rattle.soundness.proofs.Known.{value-has-count}
 use Rattle.reclaim.specs.Lent.{Passes}
-
--- ---- a count falls
-
-map-withRecord : {A B : Type 0} (f : A → B) (xs : List A) (i : ℕ) (x : A) → map f (withRecord xs i x) ≡ withRecord (map f xs) i (f x)
-map-withRecord f xs zero x = refl
-map-withRecord f xs (suc i) x = map-set f xs i x
-
-falls-written : (s : Sizes) (p : Pool) (a : RecordNumber) → let t : Tables = tablesOf s p in
-    tablesOf s (falls a p) ≡ putCounts (fewer (a .0) (t .counts)) (putCandidates (fallen (a .0) (t .counts) (t .candidates)) t)
-unfolding tablesOf falls fewer fallen
-falls-written s p a =
-    ap (λ (marks : List ℕ). putCounts (fewer (a .0) (p .records .count)) (putCandidates marks (tablesOf s p))) (by-test (eqb (countAt p a - 1) 0))
-  where
-    candidates : List Bool
-    candidates = p .records .candidate
-
-    by-test : (b : Bool) → bits (cond b (withRecord candidates (a .0) true) candidates) ≡ cond b (withRecord (bits candidates) (a .0) 1) (bits candidates)
-    by-test true = map-withRecord bit candidates a.0 true
-    by-test false = refl
 
 -- ---- one link
 

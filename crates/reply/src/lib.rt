@@ -2,7 +2,6 @@
 //     refusal_number           the number of a refusal
 //     number_of, value_of      the number and the value of an answer
 use rules::Answer;
-use rules::RecordNumber;
 use rules::Refusal;
 ghost use mathlib.Core.Path.{_≡_};
 ghost use Rattle.rules.specs.Reply.{refusalNumber, number, value};

@@ -1,5 +1,5 @@
 -- What the code rests on: facts of every sound pool, each a law of its own.
---     register-inside, value-inside, view-inside     a record number that is not none is within the tables
+--     register-inside, value-inside     a record number that is not none is within the tables
 --     link-below          a link of the record in a register has a number below S
 --     entry-there, entry-below     phases 3 and 5: the position has a history entry, whose numbers are in range
 --     count-most          no count passes S
@@ -22,7 +22,7 @@ use Rattle.rules.specs.declared.RecordNumber.{RecordNumber}
 use Rattle.rules.specs.declared.LinkNumber.{LinkNumber}
 use Rattle.rules.specs.Size.{links, linkNumber}
 use Rattle.rules.specs.Pool.{Pool, countAt, valueAt, changedAt, registerAt, logAt}
-use Rattle.rules.specs.View.{bit, times, allLogs, viewValue}
+use Rattle.rules.specs.View.{bit, times, allLogs}
 use Rattle.rules.specs.Collect.{noEntry, entryHere, falls, passes, emptied, emptiedFrom}
 use Rattle.rules.specs.Sound.{Sound, EntryInRange, countsFor}
 use Rattle.laws.proofs.Number.{link-inside}
@@ -31,7 +31,7 @@ use Rattle.laws.proofs.Search.{Passed, passed}
 use Rattle.laws.proofs.Lists.{length-flatten, Each-at}
 use Rattle.laws.proofs.Tally.{tally-most}
 use Rattle.laws.proofs.Room.{room-left}
-use Rattle.soundness.proofs.Core.{Core, core, core-in, position-in, history-room, times-most, links-in-range, view-low}
+use Rattle.soundness.proofs.Core.{Core, core, core-in, position-in, history-room, times-most, links-in-range}
 use Rattle.soundness.proofs.Take.{core-taken}
 use Rattle.soundness.proofs.Count.{old-counted, value-counted}
 use Rattle.soundness.proofs.Reclaim.{core-emptied-from}
@@ -43,9 +43,6 @@ module _ {s : Sizes} {p : Pool} (h : Sound s p) where
 
   pub value-inside : (l : LinkNumber) → 1 ≤ valueAt p l .0 → valueAt p l .0 - 1 < s .n
   value-inside l some = omega (arith, h .values l)
-
-  pub view-inside : (l : LinkNumber) → 1 ≤ viewValue p l .0 → viewValue p l .0 - 1 < s .n
-  view-inside l some = omega (arith, view-low (core h) l)
 
   pub link-below : (w q f : ℕ) → 1 ≤ registerAt p w q .0 → f < s .k → linkNumber s (registerAt p w q) f .0 < links s
   link-below w q f some k = link-inside s (registerAt p w q) f some (h .registers w q) k

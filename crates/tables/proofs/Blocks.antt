@@ -5,7 +5,7 @@
 --     joined-at, joined-set        what stands at a place of a block, and blocks of which one place is written
 --     joined-block                 blocks of which one is written whole
 -- Assumes nothing.
-use Prim.Native.Nat.{ℕ, zero, suc, _+_, _*_, _≤_, _<_}
+use Prim.Native.Nat.{ℕ, zero, suc, _+_, _*_, _<_}
 use mathlib.Core.Path.{_≡_, refl, sym, ap, _∙_}
 use mathlib.Core.List.{List, [], _∷_, _++_, flatten, append-assoc}
 use native.Mathlib.Omega.{arith}

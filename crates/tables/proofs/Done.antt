@@ -5,13 +5,11 @@
 --     moved-on       a step that moves on changes no table by that
 -- Assumes nothing.
 use Prim.Native.Nat.{ℕ}
-use mathlib.Core.Path.{_≡_, refl, sym, ap, _∙_}
-use mathlib.Core.List.{List}
+use mathlib.Core.Path.{_≡_, ap, _∙_}
 use lib.ListN.{getD}
 use Rattle.rules.specs.declared.Sizes.{Sizes}
 use Rattle.rules.specs.declared.Event.{Event}
 use Rattle.rules.specs.declared.Event.the-variants.{Collect}
-use Rattle.rules.specs.declared.Answer.{Answer}
 use Rattle.rules.specs.declared.Answer.the-variants.{Stepped, Refused}
 use Rattle.rules.specs.declared.Refusal.{Refusal}
 use Rattle.rules.specs.declared.Collector.{Collector}
@@ -22,7 +20,7 @@ use Rattle.rules.specs.Outcome.{refusals, refused, decide, does, outcome}
 use Rattle.tables.specs.Tables.{Tables}
 use Rattle.tables.specs.Lie.{poolOf, tablesOf}
 use Rattle.tables.specs.Known.{Known}
-use Rattle.tables.specs.Event.{Called, written, eventOn}
+use Rattle.tables.specs.Event.{written, eventOn}
 use Rattle.tables.proofs.RoundTrip.{known-back}
 
 module _ {s : Sizes} {t : Tables} {c : Collector} (known : Known s t c) (e : Event) where

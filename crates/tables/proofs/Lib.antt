@@ -1,6 +1,8 @@
 -- The laws of the tables: what callers use in place of a definition's text.
 --     Blocks        a table in blocks of one size
 --     Entered       a list of entries in its room
+--     Rooms         the entries of a room, and of a part of it
+--     Logs          the logs in their table
 --     Marks         marks and flags as numbers
 --     RoundTrip     on tables of the right shape, the tables of a pool and the pool of tables undo each other
 --     Stand         what stands at a place of a table, in the pool
@@ -9,6 +11,8 @@
 --     Done          an event on known tables, from what it does to the pool
 pub mod Blocks
 pub mod Entered
+pub mod Rooms
+pub mod Logs
 pub mod Marks
 pub mod RoundTrip
 pub mod Stand

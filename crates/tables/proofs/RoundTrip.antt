@@ -23,8 +23,8 @@ use Rattle.rules.specs.Pool.{Entry, Workers, Pool}
 use Rattle.rules.specs.View.{bit}
 use Rattle.rules.specs.Sound.{Each, Sound, ShapedWorkers, Shaped}
 use Rattle.tables.specs.Tables.{Tables}
-use Rattle.tables.specs.Lie.{marks, bits, recordNumbers, numbers, cut, entries, laid, room, poolOf, tablesOf}
-use Rattle.tables.specs.Known.{Exact, Marked, block, Padded, SoundTables, Known}
+use Rattle.tables.specs.Lie.{recordNumbers, numbers, cut, entries, laid, room, poolOf, tablesOf}
+use Rattle.tables.specs.Known.{Exact, Marked, block, Padded, Known}
 use Rattle.tables.proofs.Blocks.{Sized, length-cut, cut-at, cut-sized, joined-cut, cut-joined, length-joined}
 use Rattle.tables.proofs.Entered.{length-entries, length-laid, laid-past, entries-laid, laid-entries}
 use Rattle.tables.proofs.Marks.{marks-bits, bits-marks, bits-low, named-numbers, numbers-named}

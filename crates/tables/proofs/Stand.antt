@@ -1,14 +1,14 @@
 -- What stands at a place of a table, in the pool that the tables mean.
 --     number-of, mark-of                     what a table has for a record
---     count-stands, maker-stands, used-stands, held-stands, candidate-stands     a record's count, maker and marks
+--     count-stands, used-stands, held-stands, candidate-stands     a record's count and marks
 --     value-stands, changed-stands           a link's value and mark
 --     row-stands, register-stands, snoop-stands     a worker's registers and flag
 --     log-length, history-length, entry-stands      the logs and the history
 -- Assumes nothing.
 use Prim.Native.Nat.{ℕ, zero, suc, _+_, _-_, _*_, _≤_, _<_}
-use mathlib.Core.Path.{_≡_, refl, sym, ap, _∙_}
-use mathlib.Core.Bool.{Bool, false}
-use mathlib.Core.List.{List, [], map}
+use mathlib.Core.Path.{_≡_, ap, _∙_}
+use mathlib.Core.Bool.{false}
+use mathlib.Core.List.{List, []}
 use native.Mathlib.Omega.{arith}
 use native.Mathlib.Nat.{not-suc-le-zero}
 use lib.ListN.{length, getD, take, drop, List·getD-map}
@@ -17,10 +17,10 @@ use Rattle.rules.specs.declared.Sizes.{Sizes}
 use Rattle.rules.specs.declared.RecordNumber.{RecordNumber}
 use Rattle.rules.specs.declared.LinkNumber.{LinkNumber}
 use Rattle.rules.specs.declared.Collector.{Collector}
-use Rattle.rules.specs.Pool.{Pool, none, ofRecord, usedAt, countAt, heldAt, candidateAt, makerAt, valueAt, changedAt, registersAt, registerAt, snoopsAt, logAt}
+use Rattle.rules.specs.Pool.{Pool, none, ofRecord, usedAt, countAt, heldAt, candidateAt, valueAt, changedAt, registersAt, registerAt, snoopsAt, logAt}
 use Rattle.rules.specs.Collect.{noEntry}
 use Rattle.tables.specs.Tables.{Tables}
-use Rattle.tables.specs.Lie.{isOn, marks, recordNumber, recordNumbers, cut, room, poolOf}
+use Rattle.tables.specs.Lie.{isOn, marks, recordNumber, recordNumbers, cut, poolOf}
 use Rattle.tables.specs.Known.{block, Known}
 use Rattle.tables.proofs.Blocks.{length-cut, cut-at}
 use Rattle.tables.proofs.Entered.{entryIn, length-entries, entries-at}
@@ -47,10 +47,6 @@ module _ (s : Sizes) (t : Tables) (c : Collector) where
   pub count-stands : (a : RecordNumber) → 1 ≤ a .0 → countAt p a ≡ getD (t .counts) (a .0 - 1) 0
   unfolding poolOf
   count-stands a h = number-of (t .counts) (a .0) h
-
-  pub maker-stands : (a : RecordNumber) → 1 ≤ a .0 → makerAt p a ≡ getD (t .makers) (a .0 - 1) 0
-  unfolding poolOf
-  maker-stands a h = number-of (t .makers) (a .0) h
 
   pub used-stands : (a : RecordNumber) → 1 ≤ a .0 → usedAt p a ≡ isOn (getD (t .used) (a .0 - 1) 0)
   unfolding poolOf

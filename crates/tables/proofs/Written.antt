@@ -2,30 +2,34 @@
 --     number-set, mark-record, mark-set     what is written for a record, in a table of numbers and in one of marks
 --     register-written            a register takes a record number
 --     value-written, changed-written, snoop-written     a link's value, its mark, a worker's flag
+--     falls-written               a count falls
 --     log-added                   a log gets an entry more
 -- Assumes nothing.
 use Prim.Native.Nat.{ℕ, zero, suc, _+_, _-_, _*_, _≤_, _<_}
-use mathlib.Core.Path.{_≡_, refl, sym, ap, _∙_, subst}
-use mathlib.Core.Bool.{Bool}
+use mathlib.Core.Path.{_≡_, refl, sym, ap, _∙_}
+use mathlib.Core.Bool.{Bool, true, false, cond}
 use mathlib.Core.List.{List, [], _∷_, _++_, map, flatten}
 use native.Mathlib.Omega.{arith}
 use native.Mathlib.Nat.{not-suc-le-zero}
+use lib.Dec.{eqb}
 use lib.ListN.{length, getD, set, length-append, length-map, length-set}
 use lib.Seq.{set-append-left, set-set, getD-set-same}
 use Rattle.rules.specs.declared.Sizes.{Sizes}
 use Rattle.rules.specs.declared.RecordNumber.{RecordNumber}
 use Rattle.rules.specs.declared.LinkNumber.{LinkNumber}
 use Rattle.rules.specs.Size.{links}
-use Rattle.rules.specs.Pool.{Entry, Pool, withRecord, registersAt, logAt, withValue, withChanged, withRegister, withSnoop, withLog}
+use Rattle.rules.specs.Pool.{Entry, Pool, withRecord, countAt, registersAt, logAt, withValue, withChanged, withRegister, withSnoop, withLog}
 use Rattle.rules.specs.View.{bit}
+use Rattle.rules.specs.Collect.{falls}
 use Rattle.rules.specs.Sound.{Each, ShapedWorkers}
-use Rattle.tables.specs.Tables.{Tables, putValues, putChanged, putRegisters, putSnoops, putLogs, putLengths}
+use Rattle.tables.specs.Tables.{Tables, putCounts, putCandidates, putValues, putChanged, putRegisters, putSnoops, putLogs, putLengths}
 use Rattle.tables.specs.Lie.{marks, bits, numbers, laid, room, tablesOf}
+use Rattle.tables.specs.Counted.{fewer, fallen}
 use Rattle.tables.proofs.Blocks.{Sized, joined-set}
 use Rattle.tables.proofs.Entered.{laid-added}
 use Rattle.tables.proofs.Marks.{bits-marks}
 use Rattle.tables.proofs.RoundTrip.{rows-sized, sized-rows, sized-logs}
-use Rattle.laws.proofs.Lists.{Each-at, Each-set, map-set, map-at}
+use Rattle.laws.proofs.Lists.{Each-at, Each-set, map-set, map-withRecord, map-at}
 
 -- ---- for one record
 
@@ -54,6 +58,20 @@ module _ (s : Sizes) (p : Pool) where
   pub snoop-written : (w : ℕ) (b : Bool) → tablesOf s (withSnoop w b p) ≡ putSnoops (set (tablesOf s p .snoops) w (bit b)) (tablesOf s p)
   unfolding tablesOf
   snoop-written w b = ap (λ (table : List ℕ). putSnoops table (tablesOf s p)) (map-set bit (p .workers .snoop) w b)
+
+  -- "the count .. falls by 1, and at 0 it becomes a candidate"
+  pub falls-written : (a : RecordNumber) → let t : Tables = tablesOf s p in
+      tablesOf s (falls a p) ≡ putCounts (fewer (a .0) (t .counts)) (putCandidates (fallen (a .0) (t .counts) (t .candidates)) t)
+  unfolding tablesOf falls fewer fallen
+  falls-written a =
+      ap (λ (candidates : List ℕ). putCounts (fewer (a .0) (p .records .count)) (putCandidates candidates (tablesOf s p))) (by-zero (eqb (countAt p a - 1) 0))
+    where
+      candidates : List Bool
+      candidates = p .records .candidate
+
+      by-zero : (b : Bool) → bits (cond b (withRecord candidates (a .0) true) candidates) ≡ cond b (withRecord (bits candidates) (a .0) 1) (bits candidates)
+      by-zero true = map-withRecord bit candidates (a .0) true
+      by-zero false = refl
 
 -- ---- one thing of a worker, where every list has its length
 

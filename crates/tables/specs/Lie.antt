@@ -70,6 +70,10 @@ laid (suc room) (e ∷ list) = e .link .0 ∷ e .old .0 ∷ laid room list
 abbrev pub room : Sizes → ℕ
 room s = links s * 2
 
+-- the logs that lie in their two tables
+abbrev pub logsIn : Sizes → (logs lengths : List ℕ) → List (List Entry)
+logsIn s logs lengths = zipWith entries lengths (cut (s .w) (room s) logs)
+
 unfoldable pub poolOf : Sizes → Tables → Collector → Pool
 poolOf s t c =
     record {
@@ -86,7 +90,7 @@ poolOf s t c =
           record {
             registers = map recordNumbers (cut (s .w) (s .r) (t .registers));
             snoop = marks (t .snoops);
-            log = zipWith entries (t .lengths) (cut (s .w) (room s) (t .logs));
+            log = logsIn s (t .logs) (t .lengths);
           };
       history = entries (getD (t .lengths) (s .w) 0) (t .history);
       collector = c;

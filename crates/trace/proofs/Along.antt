@@ -3,12 +3,12 @@
 --     Runs, stretch-runs    a stretch, event by event
 --     stretch-ends       behind a stretch no event stands
 --     goesOn, goes-on-turn     a replay with turns enough
---     withLines, goes-stretch  the lines of a stretch, and then what comes behind it
+--     goes-along, goes-stretch     the lines of a stretch, and then what comes behind it; a stretch of a part of the bytes, and of all of them
 -- Assumes nothing.
 use Prim.Native.Nat.{ℕ, zero, suc, _-_, _≤_, _<_}
 use mathlib.Core.Path.{_≡_, refl, sym, ap, _∙_, subst}
 use mathlib.Core.Bool.{Bool, true, false}
-use mathlib.Core.List.{List, [], _∷_, _++_}
+use mathlib.Core.List.{List}
 use native.Mathlib.Omega.{arith}
 use lib.ListN.{length}
 use Rattle.rules.specs.declared.Sizes.{Sizes}
@@ -22,7 +22,8 @@ use Rattle.fields.specs.declared.Field.{Field}
 use Rattle.fields.specs.declared.Field.the-variants as field
 use Rattle.fields.specs.declared.Read.{Read}
 use Rattle.fields.specs.Field.{readAt}
-use Rattle.trace.specs.Replay.{Line, Left, stands, Replayed, lineOf, withLine, goes}
+use Rattle.fields.specs.Part.{isTaken}
+use Rattle.trace.specs.Replay.{Left, stands, Replayed, lineOf, withLine, withLines, goes}
 use Rattle.trace.specs.Stretch.{Stretch, noEvent, withEvent, behind, stretch, linesBehind}
 use Rattle.trace.proofs.Comes.{readerAt, eventRead, Comes, a-refusal, an-event, the-end, read-comes}
 use Rattle.trace.proofs.Turns.{turn, goes-turn, stretchTurn, stretch-turn}
@@ -100,10 +101,6 @@ module _ (bytes : List ℕ) where
   pub stretch-ends : (place step : ℕ) → let x = stretch bytes place step in isEvent (readAt bytes (x .next) (behind (x .step)) .field) ≡ false
   stretch-ends place step = ends-at (stretch bytes place step) (stretch-runs place step)
 
--- lines before those of a replay
-abbrev pub withLines : List Line → Replayed → Replayed
-withLines lines x = record { lines = lines ++ x .lines; ending = x .ending; left = x .left }
-
 module _ (takes : Sizes → Bool) (bytes : List ℕ) where
   -- the replay from a place on
   abbrev pub goesOn : ℕ → Reader → Left → Replayed
@@ -113,19 +110,21 @@ module _ (takes : Sizes → Bool) (bytes : List ℕ) where
       → goesOn place (readerAt stage step) left ≡ turn takes goesOn place left (readAt bytes place (readerAt stage step))
   goes-on-turn place step stage left = goes-turn takes bytes (suc (length bytes)) place step stage left (omega arith)
 
-  goes-along : (s : Sizes) (p : Pool) {place step : ℕ} (x : Stretch) → Runs bytes place step x
-      → goesOn place (behind step) (stands s p)
-      ≡ withLines (linesBehind step (answers s p (x .events))) (goesOn (x .next) (behind (x .step)) (stands s (after s p (x .events))))
-  unfolding linesBehind answers after
-  goes-along s p x (no-event none) = refl
-  goes-along s p x (then-more {place = place} {step = step} {e = e} {rest = rest} read more) =
-      let o = outcome s p e in
-      goes-on-turn place step Events (stands s p)
-      ∙ ap (turn takes goesOn place (stands s p)) read
-      ∙ ap (withLine (lineOf (suc step) (o .answer))) (goes-along s (o .pool) rest more)
+  -- a part whose fields are read so in all the bytes
+  module _ (part : List ℕ) (same : (place : ℕ) (reader : Reader) → isTaken (readAt part place reader .field) ≡ true → readAt bytes place reader ≡ readAt part place reader) where
+    pub goes-along : (s : Sizes) (p : Pool) {place step : ℕ} (x : Stretch) → Runs part place step x
+        → goesOn place (behind step) (stands s p)
+        ≡ withLines (linesBehind step (answers s p (x .events))) (goesOn (x .next) (behind (x .step)) (stands s (after s p (x .events))))
+    unfolding linesBehind answers after
+    goes-along s p x (no-event none) = refl
+    goes-along s p x (then-more {place = place} {step = step} {e = e} {rest = rest} read more) =
+        let o = outcome s p e in
+        goes-on-turn place step Events (stands s p)
+        ∙ ap (turn takes goesOn place (stands s p)) (same place (behind step) (ap (λ (y : Read). isTaken (y .field)) read) ∙ read)
+        ∙ ap (withLine (lineOf (suc step) (o .answer))) (goes-along s (o .pool) rest more)
 
   pub goes-stretch : (s : Sizes) (p : Pool) (place step : ℕ)
       → let x = stretch bytes place step in
       goesOn place (behind step) (stands s p)
       ≡ withLines (linesBehind step (answers s p (x .events))) (goesOn (x .next) (behind (x .step)) (stands s (after s p (x .events))))
-  goes-stretch s p place step = goes-along s p (stretch bytes place step) (stretch-runs bytes place step)
+  goes-stretch s p place step = goes-along bytes (λ place reader taken. refl) s p (stretch bytes place step) (stretch-runs bytes place step)

@@ -1,4 +1,5 @@
 -- How a trace stands behind its events is how its replay ends.
+--     look            a look at one field more
 --     finished        a replay that prints no more lines
 --     goes-stood      where a trace has ended its replay ends so, and leaves the pool as it is
 --     never-waits     behind the last byte of a trace nothing is waited for
@@ -39,7 +40,7 @@ use Rattle.trace.proofs.Turns.{turn}
 use Rattle.trace.proofs.Along.{isEvent, goesOn, goes-on-turn}
 
 -- a look at one field more, which waits or goes on so
-abbrev look : Bool → (ℕ → Reader → Stood) → ℕ → ℕ → ℕ → Reader → Read → Stood
+abbrev pub look : Bool → (ℕ → Reader → Stood) → ℕ → ℕ → ℕ → Reader → Read → Stood
 look wait onward free closed place reader x =
     cond wait
     (record { stand = stand.Waits; next = place; reader = reader })

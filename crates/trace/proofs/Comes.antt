@@ -2,7 +2,7 @@
 --     Comes, read-comes     what is read is one of these
 -- Assumes nothing.
 use Prim.Native.Nat.{ℕ, suc, _+_}
-use mathlib.Core.Path.{_≡_, refl, sym, ap, _∙_, subst}
+use mathlib.Core.Path.{_≡_, refl}
 use mathlib.Core.Bool.{Bool, true, false, cond, _||_}
 use mathlib.Core.List.{List, [], _∷_}
 use native.Mathlib.Omega.{arith}
@@ -22,7 +22,7 @@ use Rattle.fields.specs.declared.Stage.the-variants.{First, Events, Ended}
 use Rattle.fields.specs.declared.Reader.{Reader}
 use Rattle.fields.specs.declared.Field.the-variants as field
 use Rattle.fields.specs.declared.Read.{Read}
-use Rattle.fields.specs.Field.{byteAt, fourAt, sizesTag, endTag, payloadOf, sizesAt, eventAt, misplaced, refusals, refusedAt, decide, taken, behindEnd, fieldAt, readAt}
+use Rattle.fields.specs.Field.{byteAt, fourAt, sizesTag, endTag, payloadOf, sizesAt, eventAt, refusals, refusedAt, decide, taken, behindEnd, fieldAt, readAt}
 use Rattle.fields.specs.Part.{isTaken}
 use Rattle.fields.proofs.Taken.{TakenAt, taken-at}
 

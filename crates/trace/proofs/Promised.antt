@@ -39,14 +39,14 @@ use Rattle.fields.specs.declared.Read.{Read}
 use Rattle.fields.specs.Field.{readAt}
 use Rattle.trace.specs.declared.Ending.{Ending}
 use Rattle.trace.specs.declared.Ending.the-variants.{Whole, Stopped}
-use Rattle.trace.specs.Replay.{Line, untouched, stands, Replayed, lineOf, stops, atStart, replayed}
+use Rattle.trace.specs.Replay.{Line, untouched, stands, Replayed, lineOf, withLines, stops, atStart, replayed}
 use Rattle.trace.specs.Stretch.{Stretch, behind, stretch, linesBehind, put}
 use Rattle.trace.specs.Stand.{standBehind, endingOf}
 use Rattle.trace.specs.Traced.{leftOn, tracedBy, traced}
 use Rattle.trace.specs.Promise.{eventsOf, Run, Shown, a-run, nothing-touched, lineAt, lineFrees, linesFree}
 use Rattle.trace.proofs.Comes.{sizesRead, Comes, a-refusal, the-sizes, read-comes}
 use Rattle.trace.proofs.Turns.{turn}
-use Rattle.trace.proofs.Along.{withLines, goesOn, stretch-ends, goes-stretch}
+use Rattle.trace.proofs.Along.{goesOn, stretch-ends, goes-stretch}
 use Rattle.trace.proofs.Behind.{goes-last}
 use Rattle.trace.proofs.Sized.{length-lines}
 use Rattle.trace.proofs.Whole.{replay-starts}

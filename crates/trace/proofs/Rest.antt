@@ -6,16 +6,15 @@
 --     Going             the events of a stretch are being done
 --     going-starts, goes-on, going-ends     before the first, by the event field that stands at the place, and where none does
 -- Assumes nothing.
-use Prim.Native.Nat.{ℕ, suc, _+_, _*_, _/_, _<_, _≤_}
+use Prim.Native.Nat.{ℕ, suc, _+_, _/_, _≤_}
 use mathlib.Core.Path.{_≡_, refl, sym, ap, _∙_, subst}
-use mathlib.Core.Bool.{true, false}
-use mathlib.Core.List.{List, [], _∷_}
+use mathlib.Core.Bool.{false}
+use mathlib.Core.List.{List, _∷_}
 use native.Mathlib.Omega.{arith}
 use native.Mathlib.Nat.{zero-add, add-zero}
-use lib.ListN.{length, set}
+use lib.ListN.{length}
 use Rattle.rules.specs.declared.Sizes.{Sizes}
 use Rattle.rules.specs.declared.Event.{Event}
-use Rattle.rules.specs.declared.Answer.{Answer}
 use Rattle.rules.specs.declared.Collector.{Collector}
 use Rattle.rules.specs.Pool.{Pool}
 use Rattle.rules.specs.Outcome.{outcome, answers, after}
@@ -28,10 +27,9 @@ use Rattle.tables.proofs.RoundTrip.{pool-of-tables, known-back, sound-known}
 use Rattle.fields.specs.declared.Field.the-variants as field
 use Rattle.fields.specs.declared.Read.{Read}
 use Rattle.fields.specs.Field.{byteAt, eventAt, readAt, EventSized}
-use Rattle.trace.specs.Replay.{Line, lineOf}
+use Rattle.trace.specs.Replay.{lineOf}
 use Rattle.trace.specs.Stretch.{Stretch, behind, stretch, linesBehind, RanOn, ranOn}
 use Rattle.trace.proofs.Put.{putFrom, Puts, put-all}
-use Rattle.trace.proofs.Turns.{stretchTurn, stretch-turn}
 use Rattle.trace.proofs.Along.{isEvent, no-event-is, event-follows, stretch-event, stretch-none}
 
 -- a pool and events of a stretch, with so many done before

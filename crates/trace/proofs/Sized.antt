@@ -1,6 +1,7 @@
 -- A trace behind its sizes field.
 --     fresh-refused     the lent tables have other lengths: nothing is touched
 --     Started, fresh-starts, started-known     else they are those of a fresh pool
+--     length-lines, free-written     how many lines the events give; the free records, counted in the table of a pool
 --     sized-ends        the events done, and how the trace stands behind them, are the whole of it
 -- Assumes nothing.
 use Prim.Native.Nat.{ℕ, suc}
@@ -13,7 +14,6 @@ use Rattle.rules.specs.declared.Sizes.{Sizes}
 use Rattle.rules.specs.declared.Event.{Event}
 use Rattle.rules.specs.declared.Refusal.{Refusal}
 use Rattle.rules.specs.declared.Refusal.the-variants.{WrongSize}
-use Rattle.rules.specs.declared.Answer.{Answer}
 use Rattle.rules.specs.declared.Answer.the-variants.{Fresh, Refused}
 use Rattle.rules.specs.declared.Collector.{Collector}
 use Rattle.rules.specs.Size.{inRange}
@@ -21,7 +21,7 @@ use Rattle.rules.specs.Pool.{Pool, fresh}
 use Rattle.rules.specs.Outcome.{outcome, answers, after, freeMarks, freeRecords}
 use Rattle.soundness.proofs.Kept.{fresh-is-sound}
 use Rattle.tables.specs.Tables.{Tables}
-use Rattle.tables.specs.Lie.{marks, poolOf, tablesOf}
+use Rattle.tables.specs.Lie.{marks, tablesOf}
 use Rattle.tables.specs.Known.{Known}
 use Rattle.tables.specs.Event.{Called, written}
 use Rattle.tables.proofs.Marks.{marks-bits}
@@ -30,12 +30,12 @@ use Rattle.pool.specs.Calls.{isExact, refusedOn, madeFresh}
 use Rattle.trace.specs.declared.Ending.{Ending}
 use Rattle.trace.specs.declared.Ending.the-variants.{Stopped}
 use Rattle.trace.specs.declared.Stood.{Stood}
-use Rattle.trace.specs.Replay.{Replayed, untouched, stands, stops}
-use Rattle.trace.specs.Stretch.{Stretch, behind, stretch, linesBehind, put, RanOn, ranOf, ranOn}
+use Rattle.trace.specs.Replay.{untouched, stands, stops, withLines}
+use Rattle.trace.specs.Stretch.{behind, stretch, linesBehind, put, RanOn, ranOf, ranOn}
 use Rattle.trace.specs.Stand.{standBehind, endingOf}
 use Rattle.trace.specs.Traced.{Traced, tracedBy, sized}
-use Rattle.trace.proofs.Along.{withLines, goesOn, stretch-ends, goes-stretch}
-use Rattle.trace.proofs.Behind.{finished, goes-last}
+use Rattle.trace.proofs.Along.{goesOn, stretch-ends, goes-stretch}
+use Rattle.trace.proofs.Behind.{goes-last}
 
 -- a fresh pool, if the lent tables have its lengths
 made : Sizes → Tables → Collector → Bool → Called
@@ -81,7 +81,7 @@ length-lines s p step [] = refl
 length-lines s p step (e ∷ events) = ap suc (length-lines s (outcome s p e .pool) (suc step) events)
 
 -- the free records, counted in the table of a pool
-free-written : (s : Sizes) (q : Pool) → freeRecords q ≡ freeMarks (marks (tablesOf s q .used))
+pub free-written : (s : Sizes) (q : Pool) → freeRecords q ≡ freeMarks (marks (tablesOf s q .used))
 unfolding freeRecords tablesOf
 free-written s q = ap freeMarks (sym (marks-bits (q .records .used)))
 

@@ -5,17 +5,14 @@
 --     first-only        nothing else does
 -- Assumes nothing.
 use Prim.Native.Nat.{ℕ}
-use mathlib.Core.Path.{_≡_, refl, sym, ap, _∙_}
-use mathlib.Core.Bool.{Bool, true, cond}
+use mathlib.Core.Path.{_≡_, refl, ap, _∙_}
+use mathlib.Core.Bool.{Bool, true}
 use mathlib.Core.List.{List}
 use native.Mathlib.Omega.{arith}
 use Rattle.rules.specs.declared.Sizes.{Sizes}
-use Rattle.rules.specs.declared.Event.{Event}
 use Rattle.rules.specs.declared.Refusal.{Refusal}
-use Rattle.rules.specs.declared.Refusal.the-variants.{WrongSize}
 use Rattle.rules.specs.declared.Collector.{Collector}
 use Rattle.rules.specs.Size.{inRange}
-use Rattle.rules.specs.Pool.{fresh}
 use Rattle.tables.specs.Tables.{Tables}
 use Rattle.pool.specs.Calls.{isExact}
 use Rattle.fields.specs.declared.Stage.the-variants.{First}
@@ -24,9 +21,9 @@ use Rattle.fields.specs.declared.Field.the-variants as field
 use Rattle.fields.specs.declared.Read.{Read}
 use Rattle.fields.specs.Field.{readAt}
 use Rattle.trace.specs.declared.Ending.the-variants.{Stopped}
-use Rattle.trace.specs.Replay.{Replayed, untouched, stands, stops, atStart, replayed}
-use Rattle.trace.specs.Stretch.{behind, put}
-use Rattle.trace.specs.Traced.{Traced, tracedBy, traced, sized}
+use Rattle.trace.specs.Replay.{untouched, atStart, replayed}
+use Rattle.trace.specs.Stretch.{put}
+use Rattle.trace.specs.Traced.{tracedBy, traced, sized}
 use Rattle.trace.proofs.Comes.{Comes, a-refusal, the-sizes, read-comes}
 use Rattle.trace.proofs.Turns.{turn}
 use Rattle.trace.proofs.Along.{goesOn, goes-on-turn}

@@ -9,7 +9,7 @@ use Rattle.rules.specs.declared.Event.the-variants.{Make, Drop, Collect}
 use Rattle.rules.proofs.Starred.{computes}
 use Rattle.trace.specs.declared.Ending.the-variants.{Whole}
 use Rattle.fields.specs.Field.{payloadOf, eventAt, refusals, decide, taken, fieldAt, behindEnd, readAt}
-use Rattle.trace.specs.Replay.{Line, Replayed, goes, replayed}
+use Rattle.trace.specs.Replay.{Line, goes, replayed}
 use Rattle.trace.specs.Stretch.{stretchOf, stretch}
 use Rattle.trace.specs.Promise.{eventsOf, lineAt, lineFrees}
 

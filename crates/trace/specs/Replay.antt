@@ -5,7 +5,7 @@
 -- Assumes nothing.
 use Prim.Native.Nat.{ℕ, zero, suc}
 use mathlib.Core.Bool.{Bool, cond}
-use mathlib.Core.List.{List, [], _∷_}
+use mathlib.Core.List.{List, [], _∷_, _++_}
 use lib.ListN.{length}
 use Rattle.rules.specs.declared.Sizes.{Sizes}
 use Rattle.rules.specs.declared.Refusal.{Refusal}
@@ -16,7 +16,6 @@ use Rattle.rules.specs.Reply.{number, value}
 use Rattle.rules.specs.Outcome.{outcome, freeRecords}
 use Rattle.fields.specs.declared.Stage.the-variants.{First}
 use Rattle.fields.specs.declared.Reader.{Reader}
-use Rattle.fields.specs.declared.Field.{Field}
 use Rattle.fields.specs.declared.Field.the-variants as field
 use Rattle.fields.specs.declared.Read.{Read}
 use Rattle.trace.specs.declared.Ending.{Ending}
@@ -49,6 +48,9 @@ lineOf step x = record { step = step; number = number x; value = value x }
 
 abbrev pub withLine : Line → Replayed → Replayed
 withLine line x = record { lines = line ∷ x .lines; ending = x .ending; left = x .left }
+
+abbrev pub withLines : List Line → Replayed → Replayed
+withLines lines x = record { lines = lines ++ x .lines; ending = x .ending; left = x .left }
 
 -- the end of a whole trace
 abbrev pub ends : ℕ → Left → Replayed

@@ -3,8 +3,8 @@
 --     free-past                               some marks in a row are on
 -- Assumes nothing.
 use Prim.Native.Nat.{ℕ, zero, suc, _+_, _≤_, _<_}
-use mathlib.Core.Path.{_≡_, refl, ap, _∙_}
-use mathlib.Core.Bool.{Bool, true, false, _&&_}
+use mathlib.Core.Path.{_≡_, ap, _∙_}
+use mathlib.Core.Bool.{Bool, true, false}
 use mathlib.Core.List.{List, _∷_}
 use native.Mathlib.Omega.{arith}
 use lib.ListN.{length, getD, drop, drop-of-length-le}
@@ -12,6 +12,7 @@ use lib.Seq.{drop-cons}
 use Rattle.rules.specs.Pool.{none}
 use Rattle.rules.specs.Worker.{firstFree}
 use Rattle.tables.specs.Lie.{isOn, marks, recordNumber}
+use Rattle.laws.proofs.Tests.{and-left, and-right}
 use Rattle.worker.specs.Raw.{allOn, freeFrom}
 
 module _ (used : List ℕ) (i : ℕ) where
@@ -31,19 +32,10 @@ module _ (used : List ℕ) (i : ℕ) where
   unfolding firstFree
   free-nowhere past = ap (λ (xs : List ℕ). firstFree (suc i) (marks xs)) (drop-of-length-le used past)
 
-first-on : (a b : Bool) → a && b ≡ true → a ≡ true
-first-on true b h = refl
-first-on false b h = h
-
-second-on : (a b : Bool) → a && b ≡ true → b ≡ true
-second-on true b h = h
-second-on false true h = refl
-second-on false false h = h
-
 pub free-past : (used : List ℕ) (i n : ℕ) → i + n < length used → allOn used i n ≡ true → freeFrom used i ≡ freeFrom used (i + suc n)
 unfolding allOn
 free-past used i zero inside on = free-later used i (omega arith) on ∙ ap (freeFrom used) (omega arith)
 free-past used i (suc n) inside on =
-    free-past used i n (omega arith) (first-on (allOn used i n) (isOn (getD used (i + suc n) 0)) on)
-    ∙ free-later used (i + suc n) inside (second-on (allOn used i n) (isOn (getD used (i + suc n) 0)) on)
+    free-past used i n (omega arith) (and-left (allOn used i n) (isOn (getD used (i + suc n) 0)) on)
+    ∙ free-later used (i + suc n) inside (and-right (allOn used i n) (isOn (getD used (i + suc n) 0)) on)
     ∙ ap (freeFrom used) (omega arith)

@@ -19,7 +19,7 @@ use Rattle.rules.specs.declared.Answer.the-variants.{Refused}
 use Rattle.rules.specs.declared.Collector.{Collector}
 use Rattle.rules.specs.Pool.{Pool, registerAt}
 use Rattle.rules.specs.Worker.{chosen}
-use Rattle.rules.specs.Outcome.{Test, noSuch, hasWorker, hasRegister, hasLink, holdsNone, noneFree, logFull, refusals, refused, decide, does, outcome}
+use Rattle.rules.specs.Outcome.{Test, noSuch, hasWorker, hasRegister, hasLink, holdsNone, noneFree, logFull, refusals, decide, does, outcome}
 use Rattle.laws.proofs.Refusals.{Unrefused, decide-first, decide-next, decide-all}
 use Rattle.tables.specs.Tables.{Tables}
 use Rattle.tables.specs.Lie.{poolOf}

@@ -5,7 +5,7 @@
 -- Assumes nothing.
 use Prim.Native.Nat.{ℕ, _+_, _*_, _<_}
 use mathlib.Core.Path.{_≡_}
-use mathlib.Core.Bool.{true, false, cond}
+use mathlib.Core.Bool.{Bool, true, false, cond}
 use mathlib.Core.List.{List}
 use lib.ListN.{length, getD, set}
 use denote.Ref.{RefT, now}
@@ -30,14 +30,15 @@ abbrev pub storesOn : (held values changed registers snoops logs lengths : RefT 
 storesOn held values changed registers snoops logs lengths t =
     putHeld (now held) (putValues (now values) (putRegisters (now registers) (putSnoops (now snoops) (logsOn changed logs lengths t))))
 
--- what an entry more asks of the tables
-pub record RoomToLog (s : Sizes) (marks table ns : List ℕ) (w : ℕ) (l : LinkNumber) : Type 0 where
+-- what an entry more asks of the tables, and the mark that has been read
+pub record RoomToLog (s : Sizes) (marks table ns : List ℕ) (w : ℕ) (l : LinkNumber) (marked : Bool) : Type 0 where
   pub sizes : inRange s ≡ true
   pub worker : w < s .w
   pub link : l .0 < length marks
   pub logs : length table ≡ s .w * room s
   pub lengths : w < length ns
-  pub free : isOn (getD marks (l .0) 0) ≡ false → getD ns w 0 < links s
+  pub mark : marked ≡ isOn (getD marks (l .0) 0)
+  pub free : marked ≡ false → getD ns w 0 < links s
 
 -- where the next entry of a worker's log begins
 abbrev pub nextEntry : Sizes → ℕ → Tables → ℕ

@@ -170,7 +170,7 @@ fn log_full(s: Sizes, changed: &[u16], lengths: &[u16], w: u8, l: LinkNumber) ->
     !is_on(changed, link) & (link_count(s) <= n)
 }
 
-// "if the link's changed mark is off, (link, its value) is added to w's log and the mark goes on". There is room for it.
+// "if the link's changed mark is off, (link, its value) is added to w's log and the mark goes on". There is room for it, and the mark has been read.
 fn logged(
     s: Sizes,
     changed: &mut [u16],
@@ -179,14 +179,15 @@ fn logged(
     w: u8,
     l: LinkNumber,
     old: RecordNumber,
+    marked: bool,
 )
-    requires { ⌜ RoomToLog s (now changed) (now logs) (now lengths) w l ⌝ }
+    requires { ⌜ RoomToLog s (now changed) (now logs) (now lengths) w l marked ⌝ }
     ensures { λ _. ⌜ ((t : Tables) → logsOn (changed .exit) (logs .exit) (lengths .exit) t ≡ loggedOn s w l old (logsOn (changed .entry) (logs .entry) (lengths .entry) t)) ⌝ }
 {
-    let link = wide(l.0);
-    if is_on(changed, link) {
+    if marked {
         return;
     }
+    let link = wide(l.0);
     let worker = w as usize;
     let n = lengths[worker];
     let place = log_place(s, w as u16) + wide(n) * 2;
@@ -248,7 +249,8 @@ pub fn stores(
     let old = values[link];
     let from = register_place(s, w as u16, r as u16);
     let new = registers[from];
-    logged(s, changed, logs, lengths, w, l, RecordNumber(old));
+    let marked = is_on(changed, link);
+    logged(s, changed, logs, lengths, w, l, RecordNumber(old), marked);
     values[link] = new;
     snooped(held, snoops, w, RecordNumber(new));
     Answer::Stored(RecordNumber(old))

@@ -21,7 +21,7 @@ use Rattle.trace.specs.declared.Replay.{Replay}
 use Rattle.trace.specs.Traced.{Traced}
 use Rattle.many.specs.declared.Many.{Many}
 use Rattle.many.specs.Many.{ManyOn}
-use Rattle.yuyarisun.specs.Exported.{Numbers, numbers}
+use Rattle.yuyarisun.specs.Exported.{numbers}
 use Rattle.yuyarisun.specs.Several.{restNumber, restPlace, manyNumbers, endingNumber, endingPlace, endingFree, traceNumbers}
 
 pub in-numbers : (given : Called) (x : Answered) (t : Tables) (n v : ℕ)

@@ -16,7 +16,6 @@ use pool::sound;
 use reply::number_of;
 use reply::refusal_number;
 use reply::value_of;
-use rules::Answered;
 use rules::Collector;
 use rules::Event;
 use rules::Sizes;

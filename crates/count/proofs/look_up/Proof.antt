@@ -10,9 +10,11 @@ use borrow.Author.Needs.{needs}
 use Rattle.rules.specs.declared.RecordNumber.{RecordNumber}
 use Rattle.rules.specs.Pool.{Entry}
 use Rattle.rules.specs.View.{times, oldIn}
-use Rattle.count.specs.Looked.{oldOr, logsIn}
+use Rattle.tables.specs.Lie.{logsIn}
+use Rattle.tables.proofs.Logs.{length-logs, part-inside, length-part, log-part}
+use Rattle.count.specs.Looked.{oldOr}
 use Rattle.count.proofs.Search.{look-up-found, look-up-more, look-up-past}
-use Rattle.count.proofs.Logs.{length-logs, part-inside, length-part, log-part}
+use Rattle.count.proofs.Logs.{log-tables}
 use Rattle.count.proofs.look_up.Statement.{statement}
 use Rattle.count.proofs.look_up.Tie as tie
 
@@ -51,13 +53,13 @@ abbrev logs : tie.After-wide2 Inv-loop μ-loop → List (List Entry)
 logs c = logsIn (start c .args .s) (start c .args .logs .now) (start c .args .lengths .now)
 
 here : (c : tie.After-wide2 Inv-loop μ-loop) → worker c < length (logs c)
-here c = omega (arith, length-logs (start c .pre), c .before .before .before .before .if1 .taken)
+here c = omega (arith, length-logs (start c .args .s) (start c .args .logs .now) (start c .args .lengths .now) (start c .pre .lengths), c .before .before .before .before .if1 .taken)
 
 many : (c : tie.After-wide2 Inv-loop μ-loop) → c .wide2 .result ≡ getD (start c .args .lengths .now) (worker c) 0
 many c = c .wide2 .ensures ∙ ap (λ (i : ℕ). getD (start c .args .lengths .now) i 0) (c .before .before .wide .ensures)
 
 inside : (c : tie.After-wide2 Inv-loop μ-loop) → c .before .before .before .log-place .result + c .wide2 .result * 2 ≤ length (start c .args .logs .now)
-inside c = part-inside (start c .pre) (c .before .before .before .before .if1 .taken) (c .before .before .before .log-place .ensures .0) (many c)
+inside c = part-inside (log-tables (start c .pre)) (c .before .before .before .before .if1 .taken) (c .before .before .before .log-place .ensures .0) (many c)
 
 mul-to : tie.Need-mul-to Inv-loop μ-loop
 mul-to c = omega (arith, inside c)
@@ -90,8 +92,8 @@ says c b =
     let at = c .before .before in
     let place = at .before .before .before .log-place .ensures .0 in
     let below = at .before .before .before .before .if1 .taken in
-    ap (λ es. oldIn (start at .args .l) es b) (log-part (start at .pre) below place (many at))
-    ∙ c .find .ensures (at .wide2 .result) (length-part (start at .pre) below place (many at)) b
+    ap (λ es. oldIn (start at .args .l) es b) (log-part (log-tables (start at .pre)) below place (many at))
+    ∙ c .find .ensures (at .wide2 .result) (length-part (log-tables (start at .pre)) below place (many at)) b
 
 returns : tie.Need-returns Inv-loop μ-loop
 returns c =
@@ -123,7 +125,7 @@ returns-2 c =
     let at = c .before .before .loop in
     let first = c .before .before .before .before .before in
     absurd
-    (look-up-past (first .args .l) (logsIn (first .args .s) (first .args .logs .now) (first .args .lengths .now)) (at .w) (omega (arith, length-logs (first .pre)))
+    (look-up-past (first .args .l) (logsIn (first .args .s) (first .args .logs .now) (first .args .lengths .now)) (at .w) (omega (arith, length-logs (first .args .s) (first .args .logs .now) (first .args .lengths .now) (first .pre .lengths)))
     (at .inv .1))
 
 pub look-up-spec : {M : Type 1} → statement M

@@ -1,5 +1,5 @@
 -- `events::collects` meets its contract: in each arm the step's own contract, at the tables at entry, is what is to be shown. Assumes nothing.
-use mathlib.Core.Path.{_≡_, refl, sym, ap, _∙_}
+use mathlib.Core.Path.{_≡_}
 use native.Mathlib.Omega.{arith}
 use Rattle.tables.specs.Tables.{Tables, lent}
 use Rattle.tables.specs.Lie.{poolOf}

@@ -1,6 +1,4 @@
 -- `events::event_known` meets its contract: in each arm the event's own contract, at the tables at entry, is what is to be shown. Assumes nothing.
-use mathlib.Core.Path.{_≡_, refl, sym, ap, _∙_}
-use native.Mathlib.Omega.{arith}
 use Rattle.tables.specs.Tables.{Tables, lent}
 use borrow.Author.Needs.{needs}
 use Rattle.events.proofs.event_known.Statement.{statement}

@@ -10,7 +10,8 @@ use Rattle.tables.specs.Lie.{room}
 use Rattle.laws.proofs.Number.{bounds}
 use Rattle.laws.proofs.Lists.{Each-at}
 use Rattle.clauses.specs.IsSound.{every, isZero}
-use Rattle.inspect.proofs.Logs.{LogTables, LogsEntered, logs-none, logs-more, logs-all, logs-most, length-part}
+use Rattle.tables.proofs.Logs.{LogTables, length-part}
+use Rattle.inspect.proofs.Logs.{LogsEntered, logs-none, logs-more, logs-all, logs-most}
 use Rattle.inspect.proofs.enter_logs.Statement.{statement}
 use Rattle.inspect.proofs.enter_logs.Tie as tie
 

@@ -16,9 +16,10 @@ use Rattle.clauses.specs.Entered.{once}
 use Rattle.clauses.specs.Tallied.{tallied}
 use Rattle.clauses.specs.Inspected.{unclearedFrom, notedLinks, linksFit}
 use Rattle.inspect.specs.Lent.{Fits, linksOn}
+use Rattle.tables.proofs.Logs.{LogTables}
 use Rattle.inspect.proofs.Most.{Most, most-zeros}
 use Rattle.inspect.proofs.Noting.{entries-most, length-entered}
-use Rattle.inspect.proofs.Logs.{LogTables, all-logs-most}
+use Rattle.inspect.proofs.Logs.{all-logs-most}
 use Rattle.inspect.proofs.Links.{Cut, cut-order, links-checked}
 use Rattle.inspect.proofs.links_fit.Statement.{statement}
 use Rattle.inspect.proofs.links_fit.Tie as tie

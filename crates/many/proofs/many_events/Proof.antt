@@ -1,6 +1,6 @@
 -- Where the tests refuse nothing is done; where they do not the tables are those of a sound pool, and the events are done on them.
 use mathlib.Core.Path.{_≡_, refl, sym, _∙_}
-use mathlib.Core.Bool.{true, false}
+use mathlib.Core.Bool.{true}
 use borrow.Author.Tests.{not-true, not-false}
 use Rattle.tables.specs.Tables.{Tables, lent}
 use Rattle.clauses.specs.Inspected.{inspected}

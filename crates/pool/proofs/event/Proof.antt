@@ -1,6 +1,6 @@
 -- Where the tests refuse nothing is done; where they do not the tables are those of a sound pool, and the event on them is the event of the rules.
 use mathlib.Core.Path.{_≡_, sym, _∙_, refl}
-use mathlib.Core.Bool.{true, false}
+use mathlib.Core.Bool.{true}
 use borrow.Author.Needs.{needs}
 use borrow.Author.Tests.{not-true, not-false}
 use Rattle.tables.specs.Tables.{Tables, lent}

@@ -1,7 +1,6 @@
 -- `pool::fresh` meets its contract: what is refused changes nothing, and tables that are cleared are those of a fresh pool. Assumes nothing.
 use Prim.Native.Nat.{ℕ}
 use mathlib.Core.Path.{_≡_, refl, sym, ap, _∙_}
-use mathlib.Core.Bool.{true, _&&_}
 use mathlib.Core.List.{List}
 use borrow.Author.Tests.{not-true, not-false}
 use lib.ListN.{length, replicate}

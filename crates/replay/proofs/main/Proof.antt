@@ -1,6 +1,6 @@
 -- `replay::main` does nothing undefined, and ends. The loop's invariant is `Ready`: a turn needs room in its buffers, which is known from the bytes of a part, and leaves
 -- fewer than 13 of them. Assumes nothing.
-use Prim.Native.Nat.{_+_, _-_, _≤_, _<_}
+use Prim.Native.Nat.{_+_, _≤_, _<_}
 use mathlib.Core.Path.{_≡_, sym}
 use native.Mathlib.Omega.{arith}
 use borrow.Author.Needs.{needs}

@@ -1,6 +1,6 @@
 -- `text::decimal_places` meets its contract. The loop's invariant: the power of ten has as many zeros as places were counted behind the first, and the number has at
 -- least so many places. The power is compared with a tenth of the number, so that it stays a number of 64 bits. Assumes nothing.
-use Prim.Native.Nat.{ℕ, suc, _+_, _-_, _^_, _≤_}
+use Prim.Native.Nat.{ℕ, suc, _-_, _^_, _≤_}
 use mathlib.Core.Path.{_≡_, refl}
 use native.Mathlib.Omega.{arith}
 use lib.ListN.{length}

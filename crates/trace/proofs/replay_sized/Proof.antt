@@ -1,6 +1,6 @@
 -- `trace::replay_sized` meets its contract: `fresh` leaves a sound pool where it does not refuse, the events are done on it, and what stands behind them says how
 -- the trace ends. Assumes nothing.
-use mathlib.Core.Path.{_≡_, refl, sym, ap, _∙_}
+use mathlib.Core.Path.{_∙_}
 use mathlib.Core.List.{[], _∷_}
 use native.Mathlib.Omega.{arith}
 use types.Run.{miss}

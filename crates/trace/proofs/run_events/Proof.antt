@@ -6,7 +6,7 @@ use mathlib.Core.Logic.{⊎-elim}
 use lib.ListN.{length, length-set}
 use native.Mathlib.Omega.{arith}
 use borrow.Author.Needs.{needs}
-use Rattle.tables.specs.Tables.{Tables, lent}
+use Rattle.tables.specs.Tables.{Tables}
 use Rattle.trace.specs.Replay.{lineOf}
 use Rattle.trace.specs.Stretch.{ranOn}
 use Rattle.trace.proofs.Put.{Puts, put-here, put-past}

@@ -1,10 +1,10 @@
 -- `worker::drops` meets its contract: it is `drop-no-such` or `dropped`. Assumes nothing.
-use mathlib.Core.Path.{_≡_, refl, sym, ap, _∙_}
+use mathlib.Core.Path.{sym, _∙_}
 use borrow.Author.Tests.{not-true, not-false}
 use lib.ListN.{set}
 use Rattle.rules.specs.declared.Answer.the-variants.{Dropped}
 use Rattle.laws.proofs.Refusals.{register-there}
-use Rattle.tables.specs.Tables.{Tables, putRegisters}
+use Rattle.tables.specs.Tables.{putRegisters}
 use Rattle.worker.proofs.Refused.{drop-no-such}
 use Rattle.worker.proofs.Events.{dropped}
 use borrow.Author.Needs.{needs}

@@ -1,7 +1,7 @@
 -- `worker::loads` meets its contract: it is `load-no-such`, `load-holds-none` or `loaded`. Assumes nothing.
 use Prim.Native.Nat.{ℕ, _+_, _*_, _<_}
 use denote.Ref.{at-last}
-use mathlib.Core.Path.{_≡_, refl, sym, ap, _∙_}
+use mathlib.Core.Path.{_≡_, sym, ap, _∙_}
 use mathlib.Core.Bool.{Bool, true, _&&_}
 use native.Mathlib.Omega.{arith}
 use borrow.Author.Tests.{not-true, not-false}
@@ -12,7 +12,6 @@ use Rattle.rules.specs.declared.LinkNumber.{LinkNumber}
 use Rattle.rules.specs.Size.{linkNumber}
 use Rattle.rules.specs.Outcome.{hasWorker, hasRegister, hasLink}
 use Rattle.laws.proofs.Refusals.{RegisterThere, load-there}
-use Rattle.tables.specs.Tables.{putRegisters}
 use Rattle.tables.specs.Lie.{recordNumber}
 use Rattle.worker.proofs.Refused.{load-no-such, load-holds-none}
 use Rattle.worker.proofs.Events.{register-low, base-stands, loaded}

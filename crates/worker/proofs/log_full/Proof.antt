@@ -1,5 +1,4 @@
 -- `worker::log_full` meets its contract. Assumes nothing.
-use mathlib.Core.Path.{ap, _∙_}
 use borrow.Author.Needs.{needs}
 use Rattle.worker.proofs.log_full.Statement.{statement}
 use Rattle.worker.proofs.log_full.Tie as tie

@@ -6,44 +6,27 @@ use lib.ListN.{length, getD, set, length-set}
 use denote.Ref.{at-last}
 use Rattle.rules.specs.Size.{links}
 use Rattle.laws.proofs.Number.{links-most}
-use Rattle.tables.specs.Lie.{isOn, room}
+use Rattle.tables.specs.Lie.{room}
 use Rattle.worker.specs.Lent.{logsOn, loggedOn}
 use borrow.Author.Needs.{needs}
 use Rattle.worker.proofs.logged.Statement.{statement}
 use Rattle.worker.proofs.logged.Tie as tie
 
--- the mark that is read is the link's
-mark : (c : tie.Else1) → let at = c .before .before .before .before .before .before .before .args in
-    (isOn (getD (at .changed .now) (at .l .0) 0) ≡ c .before .is-on .result) × (c .before .before .before .wide .result ≡ at .l .0)
-mark c =
-    let at = c .before .before .before .before .before .before .before .args in
-    let here = c .before .before .before .wide .ensures in
-    (ap (λ (i : ℕ). isOn (getD (at .changed .now) i 0)) (sym here) ∙ sym (c .before .is-on .ensures), here)
-
 -- the entry's two places are within the table
-free : (c : tie.After-wide2) → let at = c .before .before .before .before .before .before .before .before .before .before .args in
+free : (c : tie.After-wide2) → let at = c .before .before .before .before .before .before .before .before .args in
     (c .before .log-place .result + c .wide2 .result * 2 + 1 < length (at .logs .now)) × (getD (at .lengths .now) (at .w) 0 < links (at .s))
 free c =
-    let tested = c .before .before .before in
-    let start = tested .before .before .before .before .before .before .before in
+    let start = c .before .before .before .before .before .before .before .before in
     let at = start .args in
-    let less : getD (at .lengths .now) (at .w) 0 < links (at .s) = start .pre .free (mark tested .0 ∙ tested .if1 .left) in
+    let less : getD (at .lengths .now) (at .w) 0 < links (at .s) = start .pre .free (c .before .before .before .before .if1 .left) in
     (omega (arith, less, c .before .log-place .ensures, c .wide2 .ensures, start .pre .logs), less)
-
-wide-requires : tie.Need-wide-requires
-wide-requires c κs = search needs
-
-is-on-requires : tie.Need-is-on-requires
-is-on-requires c κs = search needs
-
-same-length : tie.Need-same-length
-same-length c = search needs
 
 returns : tie.Need-returns
 unfolding loggedOn
-returns c t =
-    let at = c .before .before .before .before .before .before .before .args in
-    rw (ap (λ (i : ℕ). isOn (getD (at .changed .now) i 0)) (sym (c .before .before .before .wide .ensures)) ∙ sym (c .before .is-on .ensures) ∙ c .if1 .taken) refl
+returns c t = let start = c .before .before .before .before in rw (sym (start .pre .mark) ∙ c .if1 .taken) refl
+
+wide-requires : tie.Need-wide-requires
+wide-requires c κs = search needs
 
 mul-n : tie.Need-mul-n
 mul-n c = search needs
@@ -80,7 +63,7 @@ slice-write-logs-2 c = simp length-set (free c .0)
 
 add-lengths : tie.Need-add-lengths
 add-lengths c =
-    let start = c .before .before .before .before .before .before .before .before .before .before in
+    let start = c .before .before .before .before .before .before .before .before in
     omega (arith, free c .1, links-most (start .args .s) (start .pre .sizes))
 
 mul-lengths : tie.Need-mul-lengths
@@ -92,26 +75,28 @@ slice-write-lengths c = search needs
 set-mark-requires : tie.Need-set-mark-requires
 set-mark-requires c κs = search needs
 
+same-length : tie.Need-same-length
+same-length c = search needs
+
 same-length-2 : tie.Need-same-length-2
 same-length-2 c = search needs
 
 same-length-3 : tie.Need-same-length-3
 same-length-3 c = search needs
 
-same-length-4 : tie.Need-same-length-4
-same-length-4 c = search needs
-
 returns-2 : tie.Need-returns-2
 unfolding loggedOn
 returns-2 c t =
-    let tested = c .before .before .before .before .before .before .before in
-    let at = tested .before .before .before .before .before .before .before .args in
+    let tested = c .before .before .before .before .before .before .before .before in
+    let start = tested .before .before .before .before in
+    let at = start .args in
+    let link = c .before .before .before .before .before .before .before .wide .ensures in
     let place : c .before .before .before .before .before .log-place .result + c .before .before .before .before .wide2 .result * 2 ≡ at .w * room (at .s) + getD (at .lengths .now) (at .w) 0 * 2 =
     omega (arith, c .before .before .before .before .before .log-place .ensures .0, c .before .before .before .before .wide2 .ensures) in
-    rw (mark tested .0 ∙ tested .if1 .left)
+    rw (sym (start .pre .mark) ∙ tested .if1 .left)
     (λ j.
     logsOn
-    (at-last (at .changed) ((c .before .before .set-mark .ensures ∙ ap (λ (i : ℕ). set (at .changed .now) i 1) (mark tested .1)) j))
+    (at-last (at .changed) ((c .before .before .set-mark .ensures ∙ ap (λ (i : ℕ). set (at .changed .now) i 1) link) j))
     (at-last (at .logs) (set (set (at .logs .now) (place j) (at .l .0)) (place j + 1) (at .old .0)))
     (at-last (at .lengths) (set (at .lengths .now) (at .w) (getD (at .lengths .now) (at .w) 0 + 1)))
     t)
@@ -120,10 +105,8 @@ pub logged-spec : {M : Type 1} → statement M
 logged-spec =
     tie.close
     (tie.spec
-    wide-requires
-    is-on-requires
-    same-length
     returns
+    wide-requires
     mul-n
     slice-read-n
     log-place-requires
@@ -139,7 +122,7 @@ logged-spec =
     mul-lengths
     slice-write-lengths
     set-mark-requires
+    same-length
     same-length-2
     same-length-3
-    same-length-4
     returns-2)

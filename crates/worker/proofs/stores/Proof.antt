@@ -1,5 +1,5 @@
 -- `worker::stores` meets its contract: it is one of three refusals, or `stored`. Assumes nothing.
-use Prim.Native.Nat.{ℕ, _+_, _*_, _≤_, _<_}
+use Prim.Native.Nat.{ℕ, _+_, _*_}
 use mathlib.Core.Path.{_≡_, sym, ap, _∙_}
 use mathlib.Core.Bool.{Bool, true, false, not, _&&_}
 use native.Mathlib.Omega.{arith}
@@ -146,24 +146,33 @@ shared-slice-read-new c =
     let tested = c .before .before .before .before .before .before .before .before .before .before .before .before in
     omega (arith, c .before .register-place2 .ensures .1, start tested .pre .2 .exact .registers)
 
+is-on-requires : tie.Need-is-on-requires
+is-on-requires c κs =
+    let linked = c .before .before .before .before .before .before .before .before .before in
+    let known = start (linked .before .before .before .before) .pre .2 in
+    omega (arith, linked .link-number .ensures .1, known .exact .changed, c .before .before .before .before .wide .ensures)
+
 logged-requires : tie.Need-logged-requires
 logged-requires c κs =
-    let unfull = c .before .before .before .before .before .before .before in
+    let unfull = c .before .before .before .before .before .before .before .before .before in
     let linked = unfull .before .before .before .before in
     let tested = linked .before .before .before .before in
     let at = start tested .args in
     let known = start tested .pre .2 in
     let inside = store-there (at .s) (at .w) (at .q) (at .f) (at .r) (there tested) in
+    let mark : c .before .before .before .is-on .result ≡ isOn (getD (at .changed .now) (linked .link-number .result .0) 0) =
+    c .before .before .before .is-on .ensures ∙ ap (λ (i : ℕ). isOn (getD (at .changed .now) i 0)) (c .before .before .before .before .before .before .before .before .wide .ensures) in
     record {
       sizes = known .sizes;
       worker = inside .0 .worker;
       link = omega (arith, linked .link-number .ensures .1, known .exact .changed);
       logs = known .exact .logs;
       lengths = omega (arith, inside .0 .worker, known .exact .lengths);
+      mark = mark;
       free =
           λ off.
           leb-false (links (at .s)) (getD (at .lengths .now) (at .w) 0)
-          (ap (λ (b : Bool). not b && leb (links (at .s)) (getD (at .lengths .now) (at .w) 0)) (sym off) ∙ free unfull);
+          (ap (λ (b : Bool). not b && leb (links (at .s)) (getD (at .lengths .now) (at .w) 0)) (sym off ∙ mark) ∙ free unfull);
     }
 
 mul-values : tie.Need-mul-values
@@ -171,13 +180,13 @@ mul-values c = search needs
 
 slice-write-values : tie.Need-slice-write-values
 slice-write-values c =
-    let linked = c .before .before .before .before .before .before .before .before .before .before .before .before .before .before .before .before .before .before in
+    let linked = c .before .before .before .before .before .before .before .before .before .before .before .before .before .before .before .before .before .before .before .before in
     let known = start (linked .before .before .before .before) .pre .2 in
-    omega (arith, linked .link-number .ensures .1, known .exact .values, c .before .before .before .before .before .before .before .before .before .before .before .before .before .wide .ensures)
+    omega (arith, linked .link-number .ensures .1, known .exact .values, c .before .before .before .before .before .before .before .before .before .before .before .before .before .before .before .wide .ensures)
 
 snooped-requires : tie.Need-snooped-requires
 snooped-requires c κs =
-    let read = c .before .before .before .before .before .before .before .before .before .before .before .before in
+    let read = c .before .before .before .before .before .before .before .before .before .before .before .before .before .before in
     let tested = read .before .before .before .before .before .before .before .before .before .before .before in
     let at = start tested .args in
     let known = start tested .pre .2 in
@@ -203,14 +212,14 @@ same-length-7 c = search needs
 
 returns-4 : tie.Need-returns-4
 returns-4 c t k known =
-    let linked = c .before .before .before .before .before .before .before .before .before .before .before .before .before .before .before .before .before .before .before .before .before .before in
+    let linked = c .before .before .before .before .before .before .before .before .before .before .before .before .before .before .before .before .before .before .before .before .before .before .before .before in
     let tested = linked .before .before .before .before in
     let at = start tested .args in
     let here : Tables = storesOn (at .held) (at .values) (at .changed) (at .registers) (at .snoops) (at .logs) (at .lengths) t in
     let l : LinkNumber = linked .link-number .result in
     let logs = c .before .before .before .before .before .before .before .before .before .before .logged in
-    let place = c .before .before .before .before .before .before .before .before .before .before .before .before .before .before .before .register-place2 in
-    let wide = c .before .before .before .before .before .before .before .before .before .before .before .before .before .before .before .before .before .wide in
+    let place = c .before .before .before .before .before .before .before .before .before .before .before .before .before .before .before .before .before .register-place2 in
+    let wide = c .before .before .before .before .before .before .before .before .before .before .before .before .before .before .before .before .before .before .before .wide in
     let from : LinkNumber → ℕ → ℕ → Called =
     (λ m i r.
     record {
@@ -222,7 +231,7 @@ returns-4 c t k known =
     }) in
     stored known (at .w) (at .q) (at .f) (at .r) (there tested)
     (λ e. linked .before .if2 .left (sym (base (linked .before .before .before)) ∙ e))
-    (ap (λ (l : LinkNumber). not (isOn (getD (at .changed .now) (l .0) 0)) && leb (links (at .s)) (getD (at .lengths .now) (at .w) 0)) (link linked) ∙ free (c .before .before .before .before .before .before .before .before .before .before .before .before .before .before .before .before .before .before))
+    (ap (λ (l : LinkNumber). not (isOn (getD (at .changed .now) (l .0) 0)) && leb (links (at .s)) (getD (at .lengths .now) (at .w) 0)) (link linked) ∙ free (c .before .before .before .before .before .before .before .before .before .before .before .before .before .before .before .before .before .before .before .before))
     ∙ ap (λ (l : LinkNumber). from l (l .0) (at .w * at .s .r + at .r)) (link linked)
     ∙ (λ j. from l (sym (wide .ensures) j) (sym (place .ensures .0) j))
     ∙ (λ j.
@@ -253,6 +262,7 @@ stores-spec =
     register-place-requires-2
     mul-new
     shared-slice-read-new
+    is-on-requires
     logged-requires
     mul-values
     slice-write-values

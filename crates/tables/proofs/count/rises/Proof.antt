@@ -1,5 +1,5 @@
 -- `tables::count::rises` meets its contract. Of none nothing changes; the count of another stands at its place. Assumes nothing.
-use Prim.Native.Nat.{ℕ, _+_, _≤_}
+use Prim.Native.Nat.{_+_, _≤_}
 use mathlib.Core.Path.{refl}
 use native.Mathlib.Omega.{arith}
 use Rattle.tables.specs.Counted.{more}

@@ -6,7 +6,7 @@ use lib.Seq.{drop-length}
 use native.Mathlib.Omega.{arith}
 use lib.ListN.{length, drop, set, replicate, length-set}
 use borrow.Author.Needs.{needs}
-use borrow.Author.Fill.{fill-none, fill-more}
+use borrow.Author.Fill.{fill-more}
 use Rattle.tables.proofs.list.clear.Statement.{statement}
 use Rattle.tables.proofs.list.clear.Tie as tie
 
