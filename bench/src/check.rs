@@ -5,7 +5,7 @@
 //! writes, finds a link that stands twice by counting (then fewer links were seen than there are
 //! entries), and tallies four links in a turn.
 
-use crate::library::Pool;
+use yuyarisun::{Lent, Tables};
 
 const LINKS: usize = 8192;
 const RECORDS: usize = 1025;
@@ -20,13 +20,17 @@ fn largest(numbers: &[u16]) -> u16 {
 }
 
 /// Reads every number of the tables once.
-pub fn read(pool: &Pool) -> u16 {
-    pool.tables().iter().fold(0, |all, table| all | any(table))
+pub fn read(tables: &Tables) -> u16 {
+    let Tables { used, counts, held, candidates, makers, values, .. } = tables;
+    let Tables { changed, registers, snoops, logs, history, lengths, .. } = tables;
+    [used, counts, held, candidates, makers, values, changed, registers, snoops, logs, history, lengths]
+        .into_iter()
+        .fold(0, |all, table| all | any(table))
 }
 
-fn phase_fits(pool: &Pool, entries: u16) -> bool {
-    let (position, w) = (pool.position, pool.sizes.w);
-    match pool.phase {
+fn phase_fits(pool: &Lent, entries: u16) -> bool {
+    let (position, w) = (pool.collector.position, pool.sizes.w);
+    match pool.collector.phase {
         0 | 6 => position == 0 && entries == 0,
         1 => position < w && entries == 0,
         2 | 4 => position < w,
@@ -44,7 +48,7 @@ struct Seen {
 }
 
 /// The links of entries, and what each says of its link; whether all are in range.
-fn entries(list: &[u16], pool: &Pool, mut say: impl FnMut(usize, u16)) -> bool {
+fn entries(list: &[u16], pool: &Lent, mut say: impl FnMut(usize, u16)) -> bool {
     let (links, records) = (pool.sizes.links() as u16, pool.sizes.n);
     let mut ok = true;
     for entry in list.chunks_exact(2) {
@@ -55,9 +59,9 @@ fn entries(list: &[u16], pool: &Pool, mut say: impl FnMut(usize, u16)) -> bool {
     ok
 }
 
-fn logs(seen: &mut Seen, pool: &Pool) -> bool {
+fn logs(seen: &mut Seen, pool: &Lent) -> bool {
     let mut ok = true;
-    for (log, length) in pool.logs.chunks_exact(2 * pool.sizes.links()).zip(&pool.lengths) {
+    for (log, length) in pool.tables.logs.chunks_exact(2 * pool.sizes.links()).zip(&pool.tables.lengths) {
         let (log, past) = log.split_at(2 * *length as usize);
         ok &= any(past) == 0;
         ok &= entries(log, pool, |link, old| {
@@ -69,8 +73,8 @@ fn logs(seen: &mut Seen, pool: &Pool) -> bool {
 }
 
 /// The history: up to `counted` its entries are counted, and from `cleared` on they are uncleared.
-fn history(seen: &mut Seen, pool: &Pool, counted: usize, cleared: usize, length: usize) -> bool {
-    let list = &pool.history;
+fn history(seen: &mut Seen, pool: &Lent, counted: usize, cleared: usize, length: usize) -> bool {
+    let list = &pool.tables.history;
     let mut ok = any(&list[2 * length..]) == 0;
     ok &= entries(&list[..2 * counted], pool, |link, _| seen.in_history[link] = 1);
     ok &= entries(&list[2 * counted..2 * cleared], pool, |link, old| {
@@ -109,38 +113,41 @@ fn counts_fit(values: &[u16], counts: &[u16]) -> bool {
     wrong == 0
 }
 
-pub fn sound(pool: &Pool) -> bool {
-    let (sizes, links) = (pool.sizes, pool.sizes.links());
+pub fn sound(pool: &Lent) -> bool {
+    let (sizes, tables, links) = (pool.sizes, &pool.tables, pool.sizes.links());
     let lists = sizes.w as usize;
-    let length = pool.lengths[lists];
-    if largest(&pool.lengths) as usize > links || !phase_fits(pool, length) {
+    let length = tables.lengths[lists];
+    if largest(&tables.lengths) as usize > links || !phase_fits(pool, length) {
         return false;
     }
-    let marks =
-        any(&pool.used) | any(&pool.held) | any(&pool.candidates) | any(&pool.snoops) | any(&pool.changed);
-    if marks > 1 || largest(&pool.makers) > sizes.w {
+    let marks = any(&tables.used)
+        | any(&tables.held)
+        | any(&tables.candidates)
+        | any(&tables.snoops)
+        | any(&tables.changed);
+    if marks > 1 || largest(&tables.makers) > sizes.w {
         return false;
     }
-    if largest(&pool.registers) > sizes.n || largest(&pool.values) > sizes.n {
+    if largest(&tables.registers) > sizes.n || largest(&tables.values) > sizes.n {
         return false;
     }
     let mut seen = Seen { standing: [0; LINKS], in_history: [0; LINKS], counts_for: [0; LINKS] };
-    seen.counts_for[..links].copy_from_slice(&pool.values);
-    let (counted, cleared) = match pool.phase {
+    seen.counts_for[..links].copy_from_slice(&tables.values);
+    let (counted, cleared) = match pool.collector.phase {
         2 => (0, 0),
-        3 => (0, pool.position),
-        5 => (pool.position, length),
+        3 => (0, pool.collector.position),
+        5 => (pool.collector.position, length),
         _ => (0, length),
     };
     if !logs(&mut seen, pool) || !history(&mut seen, pool, counted.into(), cleared.into(), length.into()) {
         return false;
     }
     let entered =
-        pool.lengths[..lists].iter().map(|n| *n as usize).sum::<usize>() + (length - cleared) as usize;
+        tables.lengths[..lists].iter().map(|n| *n as usize).sum::<usize>() + (length - cleared) as usize;
     let mismatched =
-        pool.changed.iter().zip(&seen.standing).fold(0, |all, (mark, seen)| all | (mark ^ *seen as u16));
+        tables.changed.iter().zip(&seen.standing).fold(0, |all, (mark, seen)| all | (mark ^ *seen as u16));
     mismatched == 0
         && on(&seen.standing) == entered
         && on(&seen.in_history) == length as usize
-        && counts_fit(&seen.counts_for[..links], &pool.counts)
+        && counts_fit(&seen.counts_for[..links], &tables.counts)
 }

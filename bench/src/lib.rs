@@ -7,7 +7,7 @@
 //! - `bin/flat`   the replay program over `flat`
 //!
 //! What is measured
-//! - `library`    the calls of the static library, on tables of their own
+//! - the crate `yuyarisun`, over the static library
 //! - `situation`  sound pools of any size, in which a step is at its longest
 //! - `made`       seeded traces, heavy in worker events or in collector steps
 //!
@@ -24,7 +24,6 @@ pub mod child;
 pub mod clock;
 pub mod counted;
 pub mod flat;
-pub mod library;
 pub mod made;
 pub mod random;
 pub mod situation;

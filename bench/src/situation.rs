@@ -1,8 +1,8 @@
 //! Sound pools of any size, made without events: worked ones, and for each event and each phase one
 //! in which the step is at its longest.
 
-use crate::library::{Pool, Sizes};
 use crate::random::Random;
+use yuyarisun::{Collector, Event, Lent, Sizes, Tables};
 
 /// What stands in the lists of a pool, link by link; the old values are made.
 #[derive(Default)]
@@ -13,34 +13,33 @@ struct Lists {
 }
 
 /// A pool whose every record is used, with random values and marks.
-fn worked(sizes: Sizes, phase: u16, position: u16, lists: Lists) -> Pool {
+fn worked(sizes: Sizes, phase: u16, position: u16, lists: Lists) -> Lent {
     let mut random = Random::new(u64::from(sizes.n));
-    let mut pool = Pool::fresh(sizes);
+    let mut tables = Tables::zeros(sizes);
     let mut record = || random.below(sizes.n as usize + 1) as u16;
-    pool.values.fill_with(&mut record);
-    pool.registers.fill_with(&mut record);
-    pool.used.fill(1);
-    (pool.phase, pool.position) = (phase, position);
+    tables.values.fill_with(&mut record);
+    tables.registers.fill_with(&mut record);
+    tables.used.fill(1);
     // What each link counts for.
-    let mut counted = pool.values.clone();
+    let mut counted = tables.values.clone();
     let room = 2 * sizes.links();
     for (w, log) in lists.logs.iter().enumerate() {
-        pool.lengths[w] = log.len() as u16;
+        tables.lengths[w] = log.len() as u16;
         for (i, link) in log.iter().enumerate() {
             let old = record();
-            pool.logs[w * room + 2 * i] = *link as u16;
-            pool.logs[w * room + 2 * i + 1] = old;
-            pool.changed[*link] = 1;
+            tables.logs[w * room + 2 * i] = *link as u16;
+            tables.logs[w * room + 2 * i + 1] = old;
+            tables.changed[*link] = 1;
             counted[*link] = old;
         }
     }
-    pool.lengths[sizes.w as usize] = lists.history.len() as u16;
+    tables.lengths[sizes.w as usize] = lists.history.len() as u16;
     for (i, link) in lists.history.iter().enumerate() {
         let old = record();
-        pool.history[2 * i] = *link as u16;
-        pool.history[2 * i + 1] = old;
+        tables.history[2 * i] = *link as u16;
+        tables.history[2 * i + 1] = old;
         if phase == 2 || phase == 3 && i >= position as usize {
-            pool.changed[*link] = 1;
+            tables.changed[*link] = 1;
         }
         if phase < 5 || i >= position as usize {
             counted[*link] = old;
@@ -48,19 +47,19 @@ fn worked(sizes: Sizes, phase: u16, position: u16, lists: Lists) -> Pool {
     }
     for a in counted {
         if a != 0 {
-            pool.counts[a as usize - 1] += 1;
+            tables.counts[a as usize - 1] += 1;
         }
     }
-    pool
+    Lent { sizes, tables, collector: Collector { phase, position, closed: 0 } }
 }
 
 /// No list has an entry.
-pub fn quiet(sizes: Sizes) -> Pool {
+pub fn quiet(sizes: Sizes) -> Lent {
     worked(sizes, 0, 0, Lists::default())
 }
 
 /// Between two cycles, every second link changed, in the logs of all workers.
-pub fn half_changed(sizes: Sizes) -> Pool {
+pub fn half_changed(sizes: Sizes) -> Lent {
     let mut logs = vec![Vec::new(); sizes.w as usize];
     for link in (0..sizes.links()).step_by(2) {
         logs[link / 2 % sizes.w as usize].push(link);
@@ -70,7 +69,7 @@ pub fn half_changed(sizes: Sizes) -> Pool {
 
 /// Phase 5 at a position, every link in the history and changed again, the last at the very end of
 /// the last log.
-pub fn all_changed(sizes: Sizes, position: usize) -> Pool {
+pub fn all_changed(sizes: Sizes, position: usize) -> Lent {
     let mut logs = vec![Vec::new(); sizes.w as usize];
     let all: Vec<usize> = (0..sizes.links()).collect();
     *logs.last_mut().expect("a worker") = all.clone();
@@ -78,84 +77,83 @@ pub fn all_changed(sizes: Sizes, position: usize) -> Pool {
 }
 
 /// Phase 6; each record is a candidate and fails at its last link only, but for the one that passes.
-fn searched(sizes: Sizes, passes: Option<usize>) -> Pool {
+fn searched(sizes: Sizes, passes: Option<usize>) -> Lent {
     let (n, k) = (sizes.n as usize, sizes.k as usize);
     let log: Vec<usize> =
         (0..n).filter(|place| Some(*place) != passes).map(|place| place * k + k - 1).collect();
     let mut pool = worked(sizes, 6, 0, Lists { logs: vec![log], history: Vec::new() });
-    pool.values.fill(0);
-    for old in pool.logs.iter_mut().skip(1).step_by(2) {
+    let tables = &mut pool.tables;
+    tables.values.fill(0);
+    for old in tables.logs.iter_mut().skip(1).step_by(2) {
         *old = 0;
     }
     if let Some(place) = passes {
         for f in 0..k {
-            pool.values[place * k + f] = f as u16 % sizes.n + 1;
+            tables.values[place * k + f] = f as u16 % sizes.n + 1;
         }
     }
-    pool.counts.fill(0);
-    for value in &pool.values {
+    tables.counts.fill(0);
+    for value in &tables.values {
         if *value != 0 {
-            pool.counts[*value as usize - 1] += 1;
+            tables.counts[*value as usize - 1] += 1;
         }
     }
-    pool.candidates.fill(1);
+    tables.candidates.fill(1);
     pool
 }
 
 /// A step at its longest: what it is, the pool before it, and its event.
 pub struct Situation {
     pub name: &'static str,
-    pub pool: Pool,
-    pub event: [u8; 5],
+    pub pool: Lent,
+    pub event: Event,
 }
-
-const COLLECT: [u8; 5] = [0x20, 0, 0, 0, 0];
 
 pub fn all(sizes: Sizes) -> Vec<Situation> {
     let (s, w, r, f) = (sizes.links(), sizes.w as u8 - 1, sizes.r as u8 - 1, sizes.k as u8 - 1);
     let mut one_free = quiet(sizes);
     let last = sizes.n as usize - 1;
-    one_free.used[last] = 0;
+    one_free.tables.used[last] = 0;
     let mut full = quiet(sizes);
-    for (i, held) in full.registers.iter_mut().enumerate() {
+    for (i, held) in full.tables.registers.iter_mut().enumerate() {
         *held = (i % sizes.n as usize) as u16 + 1;
     }
     let mut snooping = full.clone();
-    snooping.phase = 4;
-    snooping.snoops.fill(1);
+    snooping.collector.phase = 4;
+    snooping.tables.snoops.fill(1);
     let mut taken = worked(sizes, 2, 0, Lists { logs: vec![(0..s).collect()], history: Vec::new() });
-    taken.makers.fill(1);
+    taken.tables.makers.fill(1);
     let mut opened = full.clone();
-    opened.phase = 1;
+    opened.collector.phase = 1;
     let cleared = worked(sizes, 3, 0, Lists { logs: Vec::new(), history: (0..s).collect() });
-    let situation = |name, pool: &Pool, event| Situation { name, pool: pool.clone(), event };
+    let situation = |name, pool: &Lent, event| Situation { name, pool: pool.clone(), event };
     vec![
-        situation("make, the last record alone free", &one_free, [0x10, w, r, 0, 0]),
-        situation("move", &full, [0x11, w, r, 0, 0]),
-        situation("drop", &full, [0x12, w, r, 0, 0]),
-        situation("load", &full, [0x13, w, r, 0, f]),
-        situation("store that logs and snoops", &snooping, [0x14, w, r, f, 0]),
-        situation("phase 0, opens", &full, COLLECT),
-        situation("phase 1, one snoop flag", &opened, COLLECT),
-        situation("phase 2, a log of S entries, all records made", &taken, COLLECT),
-        situation("phase 3, one entry cleared", &cleared, COLLECT),
-        situation("phase 4, R registers held", &snooping, COLLECT),
+        situation("make, the last record alone free", &one_free, Event::Make { w, r }),
+        situation("move", &full, Event::Move { w, r, q: 0 }),
+        situation("drop", &full, Event::Drop { w, r }),
+        situation("load", &full, Event::Load { w, r, q: 0, f }),
+        situation("store that logs and snoops", &snooping, Event::Store { w, q: r, f, r: 0 }),
+        situation("phase 0, opens", &full, Event::Collect),
+        situation("phase 1, one snoop flag", &opened, Event::Collect),
+        situation("phase 2, a log of S entries, all records made", &taken, Event::Collect),
+        situation("phase 3, one entry cleared", &cleared, Event::Collect),
+        situation("phase 4, R registers held", &snooping, Event::Collect),
         situation(
             "phase 5, the view value last in the logs, history kept",
             &all_changed(sizes, s - 2),
-            COLLECT,
+            Event::Collect,
         ),
         situation(
             "phase 5, the view value last in the logs, history of S emptied",
             &all_changed(sizes, s - 1),
-            COLLECT,
+            Event::Collect,
         ),
-        situation("phase 6, all searched, the last freed", &searched(sizes, Some(last)), COLLECT),
-        situation("phase 6, all searched, the cycle closed", &searched(sizes, None), COLLECT),
+        situation("phase 6, all searched, the last freed", &searched(sizes, Some(last)), Event::Collect),
+        situation("phase 6, all searched, the cycle closed", &searched(sizes, None), Event::Collect),
     ]
 }
 
 /// Those whose event is a collector step.
 pub fn collects(sizes: Sizes) -> Vec<Situation> {
-    all(sizes).into_iter().filter(|situation| situation.event == COLLECT).collect()
+    all(sizes).into_iter().filter(|situation| situation.event == Event::Collect).collect()
 }

@@ -19,22 +19,35 @@ use crate::refusal::Refusal;
 use crate::sizes::{Collector, Sizes, Tables};
 use crate::trace::{answered, Answer, Stop, Whole};
 
-/// Declares functions that are lent a pool; what each takes besides stands behind the dots.
-macro_rules! lent_a_pool {
-    ($(fn $name:ident(.. $(, $more:ident: $type:ty)*) -> u16;)*) => {
+/// Declares functions that are lent the tables by way of `$table`; what comes first stands in the
+/// brackets, and what each takes besides behind the dots.
+macro_rules! lent_tables {
+    ($table:ty: $(fn $name:ident([$($first:ident: $one:ty),*], .. $(, $more:ident: $type:ty)*) -> $answer:ty;)*) => {
         extern "C" {
             $(fn $name(
-                n: u16, k: u16, w: u16, r: u16,
-                used: *mut u16, used_length: usize, counts: *mut u16, counts_length: usize,
-                held: *mut u16, held_length: usize, candidates: *mut u16, candidates_length: usize,
-                makers: *mut u16, makers_length: usize, values: *mut u16, values_length: usize,
-                changed: *mut u16, changed_length: usize, registers: *mut u16, registers_length: usize,
-                snoops: *mut u16, snoops_length: usize, logs: *mut u16, logs_length: usize,
-                history: *mut u16, history_length: usize, lengths: *mut u16, lengths_length: usize,
-                phase: *mut u16, position: *mut u16, closed: *mut u16
+                $($first: $one,)*
+                used: $table, used_length: usize, counts: $table, counts_length: usize,
+                held: $table, held_length: usize, candidates: $table, candidates_length: usize,
+                makers: $table, makers_length: usize, values: $table, values_length: usize,
+                changed: $table, changed_length: usize, registers: $table, registers_length: usize,
+                snoops: $table, snoops_length: usize, logs: $table, logs_length: usize,
+                history: $table, history_length: usize, lengths: $table, lengths_length: usize
                 $(, $more: $type)*
-            ) -> u16;)*
+            ) -> $answer;)*
         }
+    };
+}
+
+/// The same of functions that are lent a pool to write: its sizes first, the collector's record
+/// behind the tables.
+macro_rules! lent_a_pool {
+    ($(fn $name:ident(.. $(, $more:ident: $type:ty)*) -> u16;)*) => {
+        lent_tables! { *mut u16: $(
+            fn $name(
+                [n: u16, k: u16, w: u16, r: u16], ..,
+                phase: *mut u16, position: *mut u16, closed: *mut u16 $(, $more: $type)*
+            ) -> u16;
+        )* }
     };
 }
 
@@ -54,30 +67,22 @@ lent_a_pool! {
     fn yuyarisun_inner_event(.., value: *mut u16, tag: u8, a: u8, b: u8, c: u8, d: u8) -> u16;
 }
 
-#[rustfmt::skip]
-extern "C" {
-    fn yuyarisun_sound(
-        n: u16, k: u16, w: u16, r: u16,
-        used: *const u16, used_length: usize, counts: *const u16, counts_length: usize,
-        held: *const u16, held_length: usize, candidates: *const u16, candidates_length: usize,
-        makers: *const u16, makers_length: usize, values: *const u16, values_length: usize,
-        changed: *const u16, changed_length: usize, registers: *const u16, registers_length: usize,
-        snoops: *const u16, snoops_length: usize, logs: *const u16, logs_length: usize,
-        history: *const u16, history_length: usize, lengths: *const u16, lengths_length: usize,
-        phase: u16, position: u16, closed: u16,
-    ) -> bool;
-    fn yuyarisun_free_records(used: *const u16, used_length: usize) -> usize;
+lent_tables! { *mut u16:
     fn yuyarisun_trace(
-        used: *mut u16, used_length: usize, counts: *mut u16, counts_length: usize,
-        held: *mut u16, held_length: usize, candidates: *mut u16, candidates_length: usize,
-        makers: *mut u16, makers_length: usize, values: *mut u16, values_length: usize,
-        changed: *mut u16, changed_length: usize, registers: *mut u16, registers_length: usize,
-        snoops: *mut u16, snoops_length: usize, logs: *mut u16, logs_length: usize,
-        history: *mut u16, history_length: usize, lengths: *mut u16, lengths_length: usize,
-        phase: *mut u16, position: *mut u16, closed: *mut u16,
+        [], .., phase: *mut u16, position: *mut u16, closed: *mut u16,
         bytes: *const u8, bytes_length: usize, answers: *mut u16, answers_length: usize,
-        events: *mut usize, free: *mut u16, place: *mut usize,
+        events: *mut usize, free: *mut u16, place: *mut usize
     ) -> u16;
+}
+
+lent_tables! { *const u16:
+    fn yuyarisun_sound(
+        [n: u16, k: u16, w: u16, r: u16], .., phase: u16, position: u16, closed: u16
+    ) -> bool;
+}
+
+extern "C" {
+    fn yuyarisun_free_records(used: *const u16, used_length: usize) -> usize;
 }
 
 /// Calls a function with what comes first, with the tables by way of `$pointer`, and with what it

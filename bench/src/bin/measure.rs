@@ -5,7 +5,6 @@
 //! Outputs are compared first; it ends with 1 if two differ, or if something does not run. With
 //! `--small` everything is done once on a small case, and the times say nothing.
 
-use bench::library::{self, Sizes};
 use bench::made::{self, Maker, COLLECTOR_HEAVY, WORKER_HEAVY};
 use bench::table::{grouped, time, Table};
 use bench::{check, child, clock, counted, flat, situation};
@@ -15,12 +14,13 @@ use std::hint::black_box;
 use std::io::{BufWriter, Read, Write};
 use std::path::{Path, PathBuf};
 use std::{env, iter};
+use yuyarisun::{Answer, Event, Lent, Pool, Record, Sizes};
 
 /// Counted calls, each with its name.
 type Calls = Vec<(String, u64)>;
 type Done<T = ()> = Result<T, Box<dyn Error>>;
 
-const LARGEST: Sizes = Sizes { n: 1024, k: 8, w: 8, r: 16 };
+const LARGEST: Sizes = Sizes::LARGEST;
 const SEED: u64 = 1;
 
 /// How much of everything.
@@ -183,13 +183,13 @@ impl Bench {
                 self.scale.check_turns,
                 &mut [
                     &mut || {
-                        black_box(pool.checked_move());
+                        black_box(pool.event(Event::Move { w: 0, r: 0, q: 0 })).ok();
                     },
                     &mut || {
                         black_box(check::sound(black_box(&copy)));
                     },
                     &mut || {
-                        black_box(check::read(black_box(&copy)));
+                        black_box(check::read(black_box(&copy.tables)));
                     },
                 ],
             );
@@ -210,29 +210,31 @@ impl Bench {
     fn inner_events(&mut self) -> Done {
         for (kind, collects) in KINDS {
             let mut maker = Box::new(Maker::<1024, 8, 8, 16>::new(SEED, collects));
-            let events: Vec<made::Event> =
+            let numbers: Vec<made::Event> =
                 iter::repeat_with(|| maker.next()).take(self.scale.call_events).collect();
+            let events: Vec<Event> = numbers.iter().map(event_of).collect();
             let fresh =
                 Box::new(flat::Pool::<1024, 8, 8, 16>::fresh(1024, 8, 8, 16).ok_or("the largest sizes")?);
-            let (mut pool, mut flat) = (library::Pool::fresh(LARGEST), fresh.clone());
-            for [tag, a, b, c, d] in events.iter().copied() {
-                if pool.inner([tag, a, b, c, d]) != flat.event(tag, a, b, c, d) {
+            let (mut pool, mut flat) = (Pool::new(LARGEST)?, fresh.clone());
+            for (event, [tag, a, b, c, d]) in events.iter().zip(numbers.iter().copied()) {
+                if in_numbers(pool.event(*event)) != flat.event(tag, a, b, c, d) {
                     return Err("the inner event and the flat-array event differ".into());
                 }
             }
-            agree(&pool)?;
+            let (tables, collector) = pool.into_tables();
+            agree(&Lent { sizes: LARGEST, tables, collector })?;
             let times = clock::best(
                 self.scale.turns,
                 &mut [
                     &mut || {
-                        let mut pool = library::Pool::fresh(LARGEST);
+                        let mut pool = Pool::new(LARGEST).expect("the largest sizes");
                         for event in &events {
-                            black_box(pool.inner(*event));
+                            black_box(pool.event(*event)).ok();
                         }
                     },
                     &mut || {
                         let mut flat = fresh.clone();
-                        for [tag, a, b, c, d] in events.iter().copied() {
+                        for [tag, a, b, c, d] in numbers.iter().copied() {
                             black_box(flat.event(tag, a, b, c, d));
                         }
                     },
@@ -322,23 +324,54 @@ impl Bench {
     }
 }
 
+/// An event of a trace as a value.
+fn event_of(&[tag, a, b, c, d]: &made::Event) -> Event {
+    match tag {
+        0x10 => Event::Make { w: a, r: b },
+        0x11 => Event::Move { w: a, r: b, q: c },
+        0x12 => Event::Drop { w: a, r: b },
+        0x13 => Event::Load { w: a, r: b, q: c, f: d },
+        0x14 => Event::Store { w: a, q: b, f: c, r: d },
+        _ => Event::Collect,
+    }
+}
+
+/// An answer as the flat pool gives it: its number and its value.
+fn in_numbers(answer: Answer) -> (u16, u16) {
+    answer.map_or_else(|why| (why.number(), 0), |value| (0, value.map_or(0, Record::number)))
+}
+
 /// The check in the library and the flat one answer the same, on a sound pool and on damaged ones.
-fn agree(pool: &library::Pool) -> Done {
+fn agree(pool: &Lent) -> Done {
     if !pool.is_sound() || !check::sound(pool) {
         return Err("a pool that should be sound is not".into());
     }
+    let tables: [fn(&mut Lent) -> &mut Vec<u16>; 12] = [
+        |pool| &mut pool.tables.used,
+        |pool| &mut pool.tables.counts,
+        |pool| &mut pool.tables.held,
+        |pool| &mut pool.tables.candidates,
+        |pool| &mut pool.tables.makers,
+        |pool| &mut pool.tables.values,
+        |pool| &mut pool.tables.changed,
+        |pool| &mut pool.tables.registers,
+        |pool| &mut pool.tables.snoops,
+        |pool| &mut pool.tables.logs,
+        |pool| &mut pool.tables.history,
+        |pool| &mut pool.tables.lengths,
+    ];
     let mut damaged = pool.clone();
-    for table in 0..12 {
-        for place in [0, damaged.tables()[table].len() / 2, damaged.tables()[table].len() - 1] {
+    for (i, table) in tables.into_iter().enumerate() {
+        let length = table(&mut damaged).len();
+        for place in [0, length / 2, length - 1] {
             for number in [0, 1, 2, 1025, 8192, u16::MAX] {
-                let before = *damaged.number(table, place);
-                *damaged.number(table, place) = number;
+                let before = std::mem::replace(&mut table(&mut damaged)[place], number);
                 if damaged.is_sound() != check::sound(&damaged) {
                     return Err(
-                        format!("the checks differ: table {table}, place {place}, number {number}").into()
+                        format!("the checks differ: table {i}, place {place}, number {number}").into()
                     );
                 }
-                *damaged.number(table, place) = before;
+                table(&mut damaged)[place] = before;
             }
         }
     }

@@ -7,22 +7,34 @@
 //! It prints one name for each call that is counted, in order. Nothing else calls what is counted.
 
 use bench::check;
-use bench::library::{Pool, Sizes};
 use bench::situation::{self, Situation};
 use std::env;
 use std::process::exit;
+use yuyarisun::{Answer, Event, Lent, Pool, Sizes};
 
 /// Each situation's event, and that the pool is sound before and behind it.
-fn steps(situations: Vec<Situation>, event: impl Fn(&mut Pool, [u8; 5]) -> (u16, u16)) {
-    for Situation { name, mut pool, event: numbers } in situations {
+fn steps(situations: Vec<Situation>, done: impl Fn(Lent, Event) -> (Lent, Answer)) {
+    for Situation { name, pool, event } in situations {
         assert!(check::sound(&pool), "{name}: the pool is not sound");
-        let before = pool.clone();
-        let (number, _) = event(&mut pool, numbers);
-        assert_eq!(number, 0, "{name}");
-        assert!(pool != before, "{name}: nothing changed");
-        assert!(check::sound(&pool), "{name}: the pool is no longer sound");
+        let (after, answer) = done(pool.clone(), event);
+        assert!(answer.is_ok(), "{name}: {answer:?}");
+        assert!(after != pool, "{name}: nothing changed");
+        assert!(check::sound(&after), "{name}: the pool is no longer sound");
         println!("{name}");
     }
+}
+
+/// An event on a pool of its own, which does not look through the tables again.
+fn inner(Lent { sizes, tables, collector }: Lent, event: Event) -> (Lent, Answer) {
+    let mut pool = Pool::from_tables(sizes, tables, collector).expect("a sound pool");
+    let answer = pool.event(event);
+    let (tables, collector) = pool.into_tables();
+    (Lent { sizes, tables, collector }, answer)
+}
+
+fn checked(mut pool: Lent, event: Event) -> (Lent, Answer) {
+    let answer = pool.event(event);
+    (pool, answer)
 }
 
 fn check(sizes: Sizes) {
@@ -46,8 +58,8 @@ fn main() {
     };
     let sizes = Sizes { n, k: 8, w: 8, r: 16 };
     match mode.as_str() {
-        "steps" => steps(situation::all(sizes), |pool, numbers| pool.inner(numbers)),
-        "checked" => steps(situation::collects(sizes), |pool, _| pool.checked_collect()),
+        "steps" => steps(situation::all(sizes), inner),
+        "checked" => steps(situation::collects(sizes), checked),
         _ => check(sizes),
     }
 }

@@ -14,16 +14,9 @@ const ANSWERS: [usize; 4] = [0, 3, 4, 5];
 /// The numbers that a trace can be refused with.
 const REFUSALS: [usize; 7] = [1, 7, 8, 9, 10, 11, 12];
 
-/// The fields that a read can end in after the first byte of the trace, with their names.
-const KINDS: [(Kind, &str); 7] = [
-    (Kind::Make, "make"),
-    (Kind::Move, "move"),
-    (Kind::Drop, "drop"),
-    (Kind::Load, "load"),
-    (Kind::Store, "store"),
-    (Kind::Collect, "collect"),
-    (Kind::End, "end"),
-];
+/// The fields that a read can end in after the first byte of the trace.
+const KINDS: [Kind; 7] =
+    [Kind::Make, Kind::Move, Kind::Drop, Kind::Load, Kind::Store, Kind::Collect, Kind::End];
 
 /// The bytes of the longest field.
 const LONGEST: usize = 11;
@@ -134,9 +127,9 @@ impl Cover {
         }
         ask(format!("a trace of {LONG} events or more"), self.long);
         for (ends, what) in [(&self.room_ends, "the room"), (&self.piece_ends, "a piece")] {
-            for (row, (kind, name)) in ends.iter().zip(KINDS) {
+            for (row, kind) in ends.iter().zip(KINDS) {
                 for (bytes, times) in row.iter().enumerate().take(3 + kind.length()) {
-                    ask(format!("{what} ends after {bytes} bytes of a field {name}"), *times);
+                    ask(format!("{what} ends after {bytes} bytes of a field {}", kind.name()), *times);
                 }
             }
         }
@@ -162,7 +155,7 @@ fn fields(trace: &[u8]) -> impl Iterator<Item = (usize, Kind)> + '_ {
 }
 
 fn count(ends: &mut Ends, kind: Kind, bytes: usize) {
-    for (row, (of, _)) in ends.iter_mut().zip(KINDS) {
+    for (row, of) in ends.iter_mut().zip(KINDS) {
         row[bytes] += u64::from(of == kind);
     }
 }
@@ -224,9 +217,14 @@ impl fmt::Display for Cover {
 
 fn table(out: &mut fmt::Formatter, ends: &Ends) -> fmt::Result {
     writeln!(out, "{:>8} {}", "", (0..LONGEST).map(|bytes| format!("{bytes:>8}")).collect::<String>())?;
-    for (row, (kind, name)) in ends.iter().zip(KINDS) {
+    for (row, kind) in ends.iter().zip(KINDS) {
         let times = &row[..3 + kind.length()];
-        writeln!(out, "{name:>8} {}", times.iter().map(|times| format!("{times:>8}")).collect::<String>())?;
+        writeln!(
+            out,
+            "{:>8} {}",
+            kind.name(),
+            times.iter().map(|times| format!("{times:>8}")).collect::<String>()
+        )?;
     }
     Ok(())
 }
@@ -239,8 +237,8 @@ mod tests {
 
     fn made(ends: &Ends) -> Vec<(&'static str, usize, u64)> {
         let rows = ends.iter().zip(KINDS);
-        let all =
-            rows.flat_map(|(row, (_, name))| (0..).zip(row).map(move |(bytes, times)| (name, bytes, *times)));
+        let all = rows
+            .flat_map(|(row, kind)| (0..).zip(row).map(move |(bytes, times)| (kind.name(), bytes, *times)));
         all.filter(|(_, _, times)| *times > 0).collect()
     }
 

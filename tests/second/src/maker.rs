@@ -68,24 +68,24 @@ pub fn make_with_field_at(seed: u64, kind: Kind, offset: usize) -> Vec<u8> {
 /// Mostly small, for then the same records meet again and again; some in between, some at the
 /// limits of `replay`.
 fn choose_sizes(random: &mut Random) -> Sizes {
-    let (n, k, w, r) = match random.below(20) {
-        0..=8 => (4, 2, 2, 3),
-        9..=15 => (8, 3, 3, 4),
-        16..=18 => (24, 4, 4, 6),
-        _ => return at_the_limits(random),
-    };
-    Sizes {
-        n: random.between(1, n),
-        k: random.between(1, k),
-        w: random.between(1, w),
-        r: random.between(1, r),
+    match random.below(20) {
+        0..=8 => up_to(Sizes { n: 4, k: 2, w: 2, r: 3 }, random),
+        9..=15 => up_to(Sizes { n: 8, k: 3, w: 3, r: 4 }, random),
+        16..=18 => up_to(Sizes { n: 24, k: 4, w: 4, r: 6 }, random),
+        _ => at_the_limits(LARGEST, 70, random),
     }
 }
 
-/// Each size as large or as small as `replay` takes it.
-fn at_the_limits(random: &mut Random) -> Sizes {
-    let mut limit = |largest| if random.percent(70) { largest } else { 1 };
-    Sizes { n: limit(LARGEST.n), k: limit(LARGEST.k), w: limit(LARGEST.w), r: limit(LARGEST.r) }
+/// Each size from 1 to this one.
+pub fn up_to(most: Sizes, random: &mut Random) -> Sizes {
+    let mut size = |most| random.between(1, most);
+    Sizes { n: size(most.n), k: size(most.k), w: size(most.w), r: size(most.r) }
+}
+
+/// Each size as large as it may be, so many times of a hundred, else 1.
+pub fn at_the_limits(largest: Sizes, percent: usize, random: &mut Random) -> Sizes {
+    let mut limit = |largest| if random.percent(percent) { largest } else { 1 };
+    Sizes { n: limit(largest.n), k: limit(largest.k), w: limit(largest.w), r: limit(largest.r) }
 }
 
 struct Maker {

@@ -10,14 +10,7 @@ use crate::pool::{Link, Pool, Record};
 use crate::replay::Ending;
 use crate::trace::Kind;
 
-const KINDS: [(Kind, &str); 6] = [
-    (Kind::Make, "make"),
-    (Kind::Move, "move"),
-    (Kind::Drop, "drop"),
-    (Kind::Load, "load"),
-    (Kind::Store, "store"),
-    (Kind::Collect, "collect"),
-];
+const KINDS: [Kind; 6] = [Kind::Make, Kind::Move, Kind::Drop, Kind::Load, Kind::Store, Kind::Collect];
 
 /// Answer numbers that no trace reaches, with the reason. They must stay at 0.
 const UNREACHED: [(usize, &str); 2] = [
@@ -63,7 +56,7 @@ impl Tally {
             return;
         }
         let phase = usize::from(before.phase);
-        for (done, (kind, _)) in self.done.iter_mut().zip(KINDS) {
+        for (done, kind) in self.done.iter_mut().zip(KINDS) {
             done[phase] += u64::from(kind == event.kind());
         }
         match event {
@@ -147,9 +140,9 @@ impl Tally {
             let reachable = UNREACHED.iter().all(|(unreached, _)| *unreached != number);
             judge(format!("answer {number}"), *times, reachable);
         }
-        for (row, (_, name)) in self.done.iter().zip(KINDS) {
+        for (row, kind) in self.done.iter().zip(KINDS) {
             for (phase, times) in row.iter().enumerate() {
-                judge(format!("{name} in phase {phase}"), *times, true);
+                judge(format!("{} in phase {phase}", kind.name()), *times, true);
             }
         }
         for damage in Damage::ALL {
@@ -178,8 +171,8 @@ impl fmt::Display for Tally {
             "how often each event was answered with 0 in each phase (collect: the phase was stepped):"
         )?;
         writeln!(out, "{:>8} {}", "", (0..7).map(|phase| format!("{phase:>9}")).collect::<String>())?;
-        for (row, (_, name)) in self.done.iter().zip(KINDS) {
-            writeln!(out, "{name:>8} {}", row.map(|times| format!("{times:>9}")).concat())?;
+        for (row, kind) in self.done.iter().zip(KINDS) {
+            writeln!(out, "{:>8} {}", kind.name(), row.map(|times| format!("{times:>9}")).concat())?;
         }
         writeln!(out, "how often each kind of damage was done:")?;
         for (name, times) in &self.damages {

@@ -27,6 +27,20 @@ impl Kind {
     pub const ALL: [Kind; 8] =
         [Kind::Sizes, Kind::Make, Kind::Move, Kind::Drop, Kind::Load, Kind::Store, Kind::Collect, Kind::End];
 
+    /// The event's name in document 01, and those of the two other fields.
+    pub fn name(self) -> &'static str {
+        match self {
+            Kind::Sizes => "sizes",
+            Kind::Make => "make",
+            Kind::Move => "move",
+            Kind::Drop => "drop",
+            Kind::Load => "load",
+            Kind::Store => "store",
+            Kind::Collect => "collect",
+            Kind::End => "end",
+        }
+    }
+
     pub fn tag(self) -> u8 {
         match self {
             Kind::Sizes => 0x01,

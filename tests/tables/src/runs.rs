@@ -2,6 +2,7 @@
 
 use second::event::Event;
 use second::habit::Habit;
+use second::maker::{at_the_limits, up_to};
 use second::pool::Sizes;
 use second::random::Random;
 
@@ -13,24 +14,12 @@ pub const LARGEST: Sizes = Sizes { n: 1024, k: 8, w: 8, r: 16 };
 /// Mostly small, for then the same records meet again and again; some in between, a few at the
 /// limits.
 pub fn choose_sizes(random: &mut Random) -> Sizes {
-    let (n, k, w, r) = match random.below(100) {
-        0..=59 => (4, 3, 3, 3),
-        60..=89 => (16, 8, 8, 16),
-        90..=97 => (160, 4, 4, 8),
-        _ => return at_the_limits(random),
-    };
-    Sizes {
-        n: random.between(1, n),
-        k: random.between(1, k),
-        w: random.between(1, w),
-        r: random.between(1, r),
+    match random.below(100) {
+        0..=59 => up_to(Sizes { n: 4, k: 3, w: 3, r: 3 }, random),
+        60..=89 => up_to(Sizes { n: 16, k: 8, w: 8, r: 16 }, random),
+        90..=97 => up_to(Sizes { n: 160, k: 4, w: 4, r: 8 }, random),
+        _ => at_the_limits(LARGEST, 75, random),
     }
-}
-
-/// Each size as large or as small as document 01 takes it.
-pub fn at_the_limits(random: &mut Random) -> Sizes {
-    let mut limit = |largest| if random.percent(75) { largest } else { 1 };
-    Sizes { n: limit(LARGEST.n), k: limit(LARGEST.k), w: limit(LARGEST.w), r: limit(LARGEST.r) }
 }
 
 /// An event of each kind with numbers that mostly are there; of those that are not, many are just

@@ -25,16 +25,16 @@ use second::trace::{well_formed, Field, Kind};
 
 /// The word for a kind of field, and the numbers that it takes.
 fn words(kind: Kind) -> (&'static str, &'static str) {
-    match kind {
-        Kind::Sizes => ("sizes", "N K W R"),
-        Kind::Make => ("make", "w r"),
-        Kind::Move => ("move", "w r q"),
-        Kind::Drop => ("drop", "w r"),
-        Kind::Load => ("load", "w r q f"),
-        Kind::Store => ("store", "w q f r"),
-        Kind::Collect => ("collect", ""),
-        Kind::End => ("end", "[COUNT]"),
-    }
+    let numbers = match kind {
+        Kind::Sizes => "N K W R",
+        Kind::Make | Kind::Drop => "w r",
+        Kind::Move => "w r q",
+        Kind::Load => "w r q f",
+        Kind::Store => "w q f r",
+        Kind::Collect => "",
+        Kind::End => "[COUNT]",
+    };
+    (kind.name(), numbers)
 }
 
 /// The text of any bytes, such that `write` gives the same bytes again. Each line says at which
