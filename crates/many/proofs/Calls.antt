@@ -17,8 +17,9 @@ use Rattle.tables.specs.Known.{Known}
 use Rattle.tables.proofs.RoundTrip.{known-back}
 use Rattle.clauses.specs.IsSound.{isSound}
 use Rattle.clauses.specs.Inspected.{inspected}
-use Rattle.pool.specs.Calls.{fits}
-use Rattle.pool.specs.Run.{LentPool, callAnswers, afterCalls}
+use Rattle.fresh.specs.Fits.{fits}
+use Rattle.tables.specs.Event.{LentPool}
+use Rattle.pool.specs.Run.{callAnswers, afterCalls}
 use Rattle.pool.proofs.Checked.{checked-known, check-is}
 use Rattle.pool.proofs.Called.{laidOut, run-lies, run-answers}
 use Rattle.trace.specs.Stretch.{stretch, linesBehind, put, RanOn, ranOn}

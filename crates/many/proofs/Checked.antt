@@ -15,7 +15,7 @@ use Rattle.rules.specs.declared.Refusal.the-variants.{WrongSize, NotSound, Wron
 use Rattle.rules.specs.declared.Collector.{Collector}
 use Rattle.tables.specs.Tables.{Tables}
 use Rattle.clauses.specs.Inspected.{inspected}
-use Rattle.pool.specs.Calls.{fits}
+use Rattle.fresh.specs.Fits.{fits}
 use Rattle.pool.proofs.Checked.{unfit-call, unsound-call, sound-call}
 use Rattle.fields.specs.declared.Field.{Field}
 use Rattle.fields.specs.declared.Field.the-variants as field

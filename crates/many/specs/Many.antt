@@ -15,7 +15,7 @@ use Rattle.rules.specs.declared.Refusal.the-variants.{WrongSize, NotSound, Wron
 use Rattle.rules.specs.declared.Collector.{Collector}
 use Rattle.tables.specs.Tables.{Tables}
 use Rattle.clauses.specs.IsSound.{isSound}
-use Rattle.pool.specs.Calls.{fits}
+use Rattle.fresh.specs.Fits.{fits}
 use Rattle.fields.specs.declared.Field.the-variants as field
 use Rattle.fields.specs.Field.{readAt}
 use Rattle.trace.specs.declared.Ran.{Ran}

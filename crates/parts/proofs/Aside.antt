@@ -19,7 +19,7 @@ use Rattle.tables.specs.Tables.{Tables}
 use Rattle.tables.specs.Lie.{room, poolOf, tablesOf}
 use Rattle.tables.specs.Known.{Known}
 use Rattle.tables.proofs.RoundTrip.{pool-of-tables, sound-known}
-use Rattle.pool.proofs.Zero.{zeroTables, fresh-zero}
+use Rattle.fresh.proofs.Zero.{zeroTables, fresh-zero}
 use Rattle.parts.specs.Arrays.{isSmall, front, aside}
 use Rattle.parts.proofs.Front.{small, links-few, registers-few, logs-few}
 

@@ -18,13 +18,14 @@ use Rattle.rules.specs.Sound.{Sound}
 use Rattle.laws.proofs.Tests.{and-both}
 use Rattle.soundness.proofs.Kept.{event-keeps-sound}
 use Rattle.tables.specs.Lie.{tablesOf}
-use Rattle.tables.specs.Event.{Called, written, eventOn}
+use Rattle.tables.specs.Event.{Called, written, eventOn, LentPool}
 use Rattle.tables.proofs.RoundTrip.{pool-of-tables, sound-known}
 use Rattle.clauses.specs.IsSound.{isSound}
 use Rattle.clauses.proofs.Exactly.{isSound-exactly}
-use Rattle.pool.specs.Calls.{isExact, fits, refusedOn, called}
-use Rattle.pool.specs.Run.{LentPool, left, callAnswers, afterCalls}
-use Rattle.pool.proofs.Exact.{exact-true}
+use Rattle.fresh.specs.Fits.{isExact, fits, refusedOn}
+use Rattle.pool.specs.Calls.{called}
+use Rattle.pool.specs.Run.{left, callAnswers, afterCalls}
+use Rattle.fresh.proofs.Exact.{exact-true}
 
 -- a pool's tables and its collector's record
 abbrev pub laidOut : Sizes → Pool → LentPool

@@ -20,8 +20,9 @@ use Rattle.tables.specs.Event.{eventOn}
 use Rattle.clauses.specs.IsSound.{isSound}
 use Rattle.clauses.specs.Inspected.{inspected}
 use Rattle.clauses.proofs.Exactly.{inspected-exactly, inspected-is}
-use Rattle.pool.specs.Calls.{isExact, fits, refusedOn, called}
-use Rattle.pool.proofs.Exact.{exact-tells}
+use Rattle.fresh.specs.Fits.{isExact, fits, refusedOn}
+use Rattle.pool.specs.Calls.{called}
+use Rattle.fresh.proofs.Exact.{exact-tells}
 
 abbrev pub Fitting : Sizes → Tables → Type 0
 Fitting s t = (inRange s ≡ true) × Exact s t

@@ -16,7 +16,9 @@ use Rattle.tables.specs.Tables.{Tables}
 use Rattle.tables.specs.Lie.{marks}
 use Rattle.tables.specs.Event.{Called}
 use Rattle.clauses.specs.IsSound.{isSound}
-use Rattle.pool.specs.Calls.{fits, called, madeFresh}
+use Rattle.fresh.specs.Fits.{fits}
+use Rattle.fresh.specs.Fresh.{madeFresh}
+use Rattle.pool.specs.Calls.{called}
 
 -- what a call answers, with the tables that it leaves
 abbrev leaving : Answered → Tables → Called

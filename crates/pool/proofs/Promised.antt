@@ -34,10 +34,12 @@ use Rattle.promises.specs.Seen.{seenAfter, lastSeen}
 use Rattle.promises.proofs.Promises as rules-promise
 use Rattle.tables.specs.Tables.{Tables}
 use Rattle.tables.specs.Lie.{poolOf, tablesOf}
-use Rattle.tables.specs.Event.{Called, written}
+use Rattle.tables.specs.Event.{Called, written, LentPool}
 use Rattle.tables.proofs.RoundTrip.{pool-of-tables}
-use Rattle.pool.specs.Calls.{fits, refusedOn, called, madeFresh}
-use Rattle.pool.specs.Run.{LentPool, left, callAnswers, afterCalls}
+use Rattle.fresh.specs.Fits.{fits, refusedOn}
+use Rattle.fresh.specs.Fresh.{madeFresh}
+use Rattle.pool.specs.Calls.{called}
+use Rattle.pool.specs.Run.{left, callAnswers, afterCalls}
 use Rattle.pool.proofs.Checked.{wrong-shape}
 use Rattle.pool.proofs.Sixth.{OfAnEvent, never-one-two-six as fair}
 use Rattle.pool.proofs.Called.{laidOut, called-sound, run-lies, run-answers}

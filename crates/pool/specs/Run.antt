@@ -1,19 +1,12 @@
 -- Events given to the call one after another, each on the tables and the collector's record that the one before left.
---     LentPool                  a pool between two calls: tables and the collector's record
 --     callAnswers, afterCalls   what the calls answer, and what they leave
 -- Assumes nothing.
 use mathlib.Core.List.{List, [], _∷_}
 use Rattle.rules.specs.declared.Sizes.{Sizes}
 use Rattle.rules.specs.declared.Event.{Event}
 use Rattle.rules.specs.declared.Answer.{Answer}
-use Rattle.rules.specs.declared.Collector.{Collector}
-use Rattle.tables.specs.Tables.{Tables}
-use Rattle.tables.specs.Event.{Called}
+use Rattle.tables.specs.Event.{Called, LentPool}
 use Rattle.pool.specs.Calls.{called}
-
-pub record LentPool : Type 0 where
-  pub tables : Tables
-  pub collector : Collector
 
 -- what a call leaves
 abbrev pub left : Called → LentPool

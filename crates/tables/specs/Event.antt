@@ -1,5 +1,6 @@
 -- An event on lent tables in which a sound pool lies.
 --     Called     what a call answers and leaves
+--     LentPool   a pool between two calls: tables and the collector's record
 --     written    an outcome of the rules, written out
 --     eventOn    an event on tables
 --     SomePool, Answers     what a worker event that is lent some of the tables asks of them, and what it does
@@ -24,6 +25,11 @@ pub record Called : Type 0 where
   pub answer : Answer
   pub collector : Collector
   pub tables : Tables
+
+-- a pool between two calls
+pub record LentPool : Type 0 where
+  pub tables : Tables
+  pub collector : Collector
 
 unfoldable pub written : Sizes → Outcome → Called
 written s o = record { answer = o .answer; collector = o .pool .collector; tables = tablesOf s (o .pool) }

@@ -32,8 +32,8 @@ use Rattle.promises.specs.Seen.{seenAfter, lastSeen}
 use Rattle.promises.proofs.Promises as rules-promise
 use Rattle.tables.specs.Tables.{Tables}
 use Rattle.tables.specs.Lie.{tablesOf}
-use Rattle.pool.specs.Calls.{isExact}
-use Rattle.pool.specs.Run.{LentPool}
+use Rattle.fresh.specs.Fits.{isExact}
+use Rattle.tables.specs.Event.{LentPool}
 use Rattle.fields.specs.declared.Stage.the-variants.{First}
 use Rattle.fields.specs.declared.Read.{Read}
 use Rattle.fields.specs.Field.{readAt}

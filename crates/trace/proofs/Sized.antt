@@ -26,7 +26,8 @@ use Rattle.tables.specs.Known.{Known}
 use Rattle.tables.specs.Event.{Called, written}
 use Rattle.tables.proofs.Marks.{marks-bits}
 use Rattle.tables.proofs.RoundTrip.{pool-of-tables, sound-known}
-use Rattle.pool.specs.Calls.{isExact, refusedOn, madeFresh}
+use Rattle.fresh.specs.Fits.{isExact, refusedOn}
+use Rattle.fresh.specs.Fresh.{madeFresh}
 use Rattle.trace.specs.declared.Ending.{Ending}
 use Rattle.trace.specs.declared.Ending.the-variants.{Stopped}
 use Rattle.trace.specs.declared.Stood.{Stood}

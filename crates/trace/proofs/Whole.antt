@@ -14,7 +14,7 @@ use Rattle.rules.specs.declared.Refusal.{Refusal}
 use Rattle.rules.specs.declared.Collector.{Collector}
 use Rattle.rules.specs.Size.{inRange}
 use Rattle.tables.specs.Tables.{Tables}
-use Rattle.pool.specs.Calls.{isExact}
+use Rattle.fresh.specs.Fits.{isExact}
 use Rattle.fields.specs.declared.Stage.the-variants.{First}
 use Rattle.fields.specs.declared.Field.{Field}
 use Rattle.fields.specs.declared.Field.the-variants as field

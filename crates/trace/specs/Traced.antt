@@ -14,8 +14,8 @@ use Rattle.rules.specs.declared.Collector.{Collector}
 use Rattle.rules.specs.Pool.{fresh}
 use Rattle.tables.specs.Tables.{Tables}
 use Rattle.tables.specs.Lie.{tablesOf}
-use Rattle.pool.specs.Calls.{isExact}
-use Rattle.pool.specs.Run.{LentPool}
+use Rattle.fresh.specs.Fits.{isExact}
+use Rattle.tables.specs.Event.{LentPool}
 use Rattle.trace.specs.declared.Replay.{Replay}
 use Rattle.trace.specs.Replay.{Left, untouched, stands, Replayed, stops, goes, replayed}
 use Rattle.trace.specs.Stretch.{behind, put}

@@ -16,7 +16,8 @@ use Rattle.rules.specs.Pool.{fresh}
 use Rattle.rules.specs.Reply.{number, value}
 use Rattle.tables.specs.Tables.{Tables}
 use Rattle.tables.specs.Event.{Called, written}
-use Rattle.pool.specs.Calls.{fits, refusedOn, madeFresh}
+use Rattle.fresh.specs.Fits.{fits, refusedOn}
+use Rattle.fresh.specs.Fresh.{madeFresh}
 use Rattle.trace.specs.declared.Replay.{Replay}
 use Rattle.trace.specs.Traced.{Traced}
 use Rattle.many.specs.declared.Many.{Many}

@@ -2,16 +2,16 @@
 // tables must not overlap. The sizes are n, k, w and r. A call on a pool answers the number of "Numbers a call may answer"; its value is put into `value`, 0 where it
 // refuses. The header is include/yuyarisun.h.
 //     yuyarisun_make, _move, _drop, _load, _store, _collect     one event of each kind: `pool::event`
-//     yuyarisun_fresh, _sound, _free_records                    the other calls of `pool`
+//     yuyarisun_fresh, _sound, _free_records                    the calls of `fresh`, and `pool::sound`
 //     yuyarisun_events, _trace                                  many events at once; a whole trace
 //     yuyarisun_inner_event                                     inner: an event on a pool that is known to be sound; in no header
 // Inner: one_event, event_of, rest_number, rest_place, ending_number, ending_place, ending_free.
 use events::event_known;
+use fresh::free_records;
+use fresh::fresh;
 use many::Rest;
 use many::many_events;
 use pool::event;
-use pool::free_records;
-use pool::fresh;
 use pool::sound;
 use reply::number_of;
 use reply::refusal_number;
@@ -29,7 +29,9 @@ ghost use Rattle.tables.specs.Lie.{marks};
 ghost use Rattle.tables.specs.Known.{Known};
 ghost use Rattle.tables.specs.Event.{eventOn};
 ghost use Rattle.clauses.specs.IsSound.{isSound};
-ghost use Rattle.pool.specs.Calls.{fits, called, madeFresh};
+ghost use Rattle.fresh.specs.Fits.{fits};
+ghost use Rattle.fresh.specs.Fresh.{madeFresh};
+ghost use Rattle.pool.specs.Calls.{called};
 ghost use Rattle.trace.specs.Traced.{traced};
 ghost use Rattle.many.specs.Many.{manyOn};
 ghost use Rattle.yuyarisun.specs.Exported.{sizesOf, collectorOf, eventOf, numbers};

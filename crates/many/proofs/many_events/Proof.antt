@@ -4,7 +4,7 @@ use mathlib.Core.Bool.{true}
 use borrow.Author.Tests.{not-true, not-false}
 use Rattle.tables.specs.Tables.{Tables, lent}
 use Rattle.clauses.specs.Inspected.{inspected}
-use Rattle.pool.specs.Calls.{fits}
+use Rattle.fresh.specs.Fits.{fits}
 use Rattle.pool.proofs.Checked.{fits-tells, checked-known}
 use Rattle.many.proofs.Checked.{wrong-shape, not-sound, known-many}
 use borrow.Author.Needs.{needs}
@@ -14,7 +14,7 @@ use Rattle.many.proofs.many_events.Reads as reads
 use Rattle.many.proofs.many_events.Lts as lts
 use Rattle.inspect.proofs.inspect.Reads as inspect-reads
 use Rattle.many.proofs.rest_of.Reads as rest-of-reads
-use Rattle.pool.proofs.has_shape.Reads as has-shape-reads
+use Rattle.fresh.proofs.has_shape.Reads as has-shape-reads
 use Rattle.trace.proofs.run_events.Reads as run-events-reads
 
 abbrev here : tie.Start → Tables

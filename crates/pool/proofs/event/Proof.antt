@@ -5,7 +5,7 @@ use borrow.Author.Needs.{needs}
 use borrow.Author.Tests.{not-true, not-false}
 use Rattle.tables.specs.Tables.{Tables, lent}
 use Rattle.clauses.specs.Inspected.{inspected}
-use Rattle.pool.specs.Calls.{fits}
+use Rattle.fresh.specs.Fits.{fits}
 use Rattle.pool.proofs.Checked.{fits-tells, checked-known, wrong-shape, not-sound, known-called}
 use Rattle.pool.proofs.event.Statement.{statement}
 use Rattle.pool.proofs.event.Tie as tie

@@ -4,7 +4,7 @@ use mathlib.Core.Bool.{true}
 use borrow.Author.Needs.{needs}
 use borrow.Author.Tests.{not-true, not-false}
 use Rattle.tables.specs.Tables.{Tables, lent}
-use Rattle.pool.specs.Calls.{fits}
+use Rattle.fresh.specs.Fits.{fits}
 use Rattle.pool.proofs.Checked.{fits-tells, sound-false, sound-checked}
 use Rattle.pool.proofs.sound.Statement.{statement}
 use Rattle.pool.proofs.sound.Tie as tie

@@ -13,7 +13,7 @@ use Rattle.trace.proofs.replay_sized.Statement.{statement}
 use Rattle.trace.proofs.replay_sized.Tie as tie
 use Rattle.trace.proofs.replay_sized.Reads as reads
 use Rattle.trace.proofs.replay_sized.Lts as lts
-use Rattle.pool.proofs.fresh.Reads as fresh-reads
+use Rattle.fresh.proofs.fresh.Reads as fresh-reads
 use Rattle.trace.proofs.ending_of.Reads as ending-of-reads
 use Rattle.trace.proofs.run_events.Reads as run-events-reads
 use Rattle.trace.proofs.stand_behind.Reads as stand-behind-reads

@@ -20,7 +20,7 @@ use Rattle.trace.proofs.stand_behind.Tie as tie
 use Rattle.trace.proofs.stand_behind.Reads as reads
 use Rattle.trace.proofs.stand_behind.Lts as lts
 use Rattle.fields.proofs.read_at.Reads as read-at-reads
-use Rattle.pool.proofs.free_records.Reads as free-records-reads
+use Rattle.fresh.proofs.free_records.Reads as free-records-reads
 
 abbrev Inv-loop : tie.InvT-loop
 Inv-loop used closed bytes place last fields₀ next₀ now₀ fields next now =

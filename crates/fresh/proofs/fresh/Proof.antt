@@ -1,4 +1,4 @@
--- `pool::fresh` meets its contract: what is refused changes nothing, and tables that are cleared are those of a fresh pool. Assumes nothing.
+-- `fresh::fresh` meets its contract: what is refused changes nothing, and tables that are cleared are those of a fresh pool. Assumes nothing.
 use Prim.Native.Nat.{ℕ}
 use mathlib.Core.Path.{_≡_, refl, sym, ap, _∙_}
 use mathlib.Core.List.{List}
@@ -11,12 +11,12 @@ use Rattle.laws.proofs.Tests.{and-right}
 use Rattle.tables.specs.Tables.{Tables, lent}
 use Rattle.tables.specs.Known.{Exact}
 use Rattle.tables.specs.Event.{written}
-use Rattle.pool.specs.Calls.{madeFresh}
-use Rattle.pool.proofs.Exact.{exact-tells}
-use Rattle.pool.proofs.Zero.{zeroTables, fresh-zero}
+use Rattle.fresh.specs.Fresh.{madeFresh}
+use Rattle.fresh.proofs.Exact.{exact-tells}
+use Rattle.fresh.proofs.Zero.{zeroTables, fresh-zero}
 use borrow.Author.Needs.{needs}
-use Rattle.pool.proofs.fresh.Statement.{statement}
-use Rattle.pool.proofs.fresh.Tie as tie
+use Rattle.fresh.proofs.fresh.Statement.{statement}
+use Rattle.fresh.proofs.fresh.Tie as tie
 
 -- a table that is cleared is 0 as often as it is long
 cleared : (before : List ℕ) {after : List ℕ} {n : ℕ} → after ≡ replicate (length before) 0 → length before ≡ n → replicate n 0 ≡ after

@@ -1,4 +1,4 @@
--- `pool::free_records` meets its contract. The loop's invariant: those counted and those from the present mark on are all. Assumes nothing.
+-- `fresh::free_records` meets its contract. The loop's invariant: those counted and those from the present mark on are all. Assumes nothing.
 use Prim.Native.Nat.{suc, _+_, _-_, _≤_}
 use mathlib.Core.Path.{_≡_, sym, ap, _∙_}
 use mathlib.Core.Logic.{⊎-elim}
@@ -7,9 +7,9 @@ use native.Mathlib.Numerals.{add-one}
 use borrow.Author.Needs.{needs}
 use borrow.Author.Tests.{not-true, not-false}
 use lib.ListN.{length}
-use Rattle.pool.proofs.Free.{freeFrom, free-off, free-on, free-end}
-use Rattle.pool.proofs.free_records.Statement.{statement}
-use Rattle.pool.proofs.free_records.Tie as tie
+use Rattle.fresh.proofs.Free.{freeFrom, free-off, free-on, free-end}
+use Rattle.fresh.proofs.free_records.Statement.{statement}
+use Rattle.fresh.proofs.free_records.Tie as tie
 
 abbrev Inv-loop : tie.InvT-loop
 Inv-loop used free₀ i₀ free i = (i ≤ length used) × (free ≤ i) × (free + freeFrom used i ≡ freeFrom used 0)

@@ -1,13 +1,13 @@
--- `pool::is_exact` meets its contract: the code is the definition, and products of numbers of 16 bits fit. Assumes nothing.
+-- `fresh::is_exact` meets its contract: the code is the definition, and products of numbers of 16 bits fit. Assumes nothing.
 use Prim.Native.Nat.{ℕ, _*_, _≤_}
 use mathlib.Core.Path.{refl}
 use native.Mathlib.Omega.{arith}
 use native.Mathlib.Nat.{mul-le-mul}
 use Rattle.rules.specs.Size.{links}
-use Rattle.pool.specs.Calls.{isExact}
+use Rattle.fresh.specs.Fits.{isExact}
 use borrow.Author.Needs.{needs}
-use Rattle.pool.proofs.is_exact.Statement.{statement}
-use Rattle.pool.proofs.is_exact.Tie as tie
+use Rattle.fresh.proofs.is_exact.Statement.{statement}
+use Rattle.fresh.proofs.is_exact.Tie as tie
 
 -- a number of 16 bits times one that is at most another
 product : (a b most : ℕ) → a ≤ 65535 → b ≤ most → a * b ≤ 65535 * most

@@ -1,7 +1,7 @@
--- `pool::has_shape` meets its contract, by those of its two tests. Assumes nothing.
+-- `fresh::has_shape` meets its contract, by those of its two tests. Assumes nothing.
 use borrow.Author.Needs.{needs}
-use Rattle.pool.proofs.has_shape.Statement.{statement}
-use Rattle.pool.proofs.has_shape.Tie as tie
+use Rattle.fresh.proofs.has_shape.Statement.{statement}
+use Rattle.fresh.proofs.has_shape.Tie as tie
 
 in-range-requires : tie.Need-in-range-requires
 in-range-requires c κs = search needs

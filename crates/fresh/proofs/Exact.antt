@@ -16,7 +16,7 @@ use Rattle.laws.proofs.Tests.{and-left, and-right, and-both}
 use Rattle.tables.specs.Tables.{Tables}
 use Rattle.tables.specs.Lie.{room}
 use Rattle.tables.specs.Known.{Exact}
-use Rattle.pool.specs.Calls.{isExact}
+use Rattle.fresh.specs.Fits.{isExact}
 
 -- tests joined from the left: all of them are true where the whole is
 ands : Bool → List Bool → Bool

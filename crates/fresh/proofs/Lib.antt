@@ -1,0 +1,7 @@
+-- What the proofs here cite.
+--     Free        how many marks of a table are off, mark by mark
+--     Exact       the test of the lengths, and what it says
+--     Zero        the tables of a fresh pool are 0 throughout
+pub mod Free
+pub mod Exact
+pub mod Zero

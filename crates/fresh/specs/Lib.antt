@@ -1,0 +1,5 @@
+-- Lent tables made a fresh pool.
+--     Fits      which sizes and lengths are taken
+--     Fresh     what `fresh` answers and leaves, for every input
+pub mod Fits
+pub mod Fresh
