@@ -206,8 +206,9 @@ impl Bench {
         Ok(())
     }
 
-    /// The inner event, which checks nothing, beside the flat-array event, on the largest pool.
-    fn inner_events(&mut self) -> Done {
+    /// The event of the Rust type `Pool`, which checks nothing, beside the flat-array event, on the
+    /// largest pool.
+    fn pool_events(&mut self) -> Done {
         for (kind, collects) in KINDS {
             let mut maker = Box::new(Maker::<1024, 8, 8, 16>::new(SEED, collects));
             let numbers: Vec<made::Event> =
@@ -218,7 +219,7 @@ impl Bench {
             let (mut pool, mut flat) = (Pool::new(LARGEST)?, fresh.clone());
             for (event, [tag, a, b, c, d]) in events.iter().zip(numbers.iter().copied()) {
                 if in_numbers(pool.event(*event)) != flat.event(tag, a, b, c, d) {
-                    return Err("the inner event and the flat-array event differ".into());
+                    return Err("the event of the Rust type and the flat-array event differ".into());
                 }
             }
             let (tables, collector) = pool.into_tables();
@@ -241,7 +242,7 @@ impl Bench {
                 ],
             );
             let each = |seconds: f64| format!("{} an event", time(seconds / events.len() as f64));
-            let what = format!("inner event, largest pool, {kind}, beside the flat-array event");
+            let what = format!("event of the Rust type, largest pool, {kind}, beside the flat-array event");
             self.table.row(&what, each(times[0]), each(times[1]), times[0] / times[1]);
         }
         Ok(())
@@ -310,7 +311,7 @@ impl Bench {
     fn all(&mut self) -> Done {
         self.replays()?;
         self.checks()?;
-        self.inner_events()?;
+        self.pool_events()?;
         if counted::is_there() {
             self.instructions()?;
         } else {

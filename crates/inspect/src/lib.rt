@@ -6,7 +6,7 @@
 //     phase_fits, counted_to, uncleared_from     the collector's record, and where it parts the history
 //     enter, enter_logs, take_values             the entries of a list, of all logs, and the links' values are noted
 //     marks_match                                each changed mark against what was seen of its link
-//     tally_links, counts_match                  each count against the tally of its record
+//     tally_link, tally_fours, tally_links, counts_match     each count against the tally of its record
 //     numbers_fit, links_fit                     the parts of the check
 use rules::Collector;
 use rules::Sizes;
@@ -16,7 +16,7 @@ use tables::place::wide;
 ghost use mathlib.Core.Path.{_≡_};
 ghost use mathlib.Core.Bool.{true, _&&_};
 ghost use mathlib.Core.List.{List, flatten};
-ghost use Prim.Native.Nat.{ℕ, _+_, _*_, _≤_};
+ghost use Prim.Native.Nat.{ℕ, _+_, _*_, _%_, _≤_};
 ghost use lib.Dec.{leb};
 ghost use lib.ListN.{length, replicate};
 ghost use Rattle.rules.specs.Size.{inRange, links};
@@ -26,7 +26,7 @@ ghost use Rattle.tables.specs.Lie.{entries, room, logsIn};
 ghost use Rattle.tables.specs.Known.{Exact};
 ghost use Rattle.clauses.specs.IsSound.{every, isZero};
 ghost use Rattle.clauses.specs.Entered.{RoomFor, enteredAll};
-ghost use Rattle.clauses.specs.Tallied.{tallied};
+ghost use Rattle.clauses.specs.Tallied.{raised, tallied};
 ghost use Rattle.clauses.specs.Inspected.{phaseFits, countedTo, unclearedFrom, paddedLogs, valued, marksMatch, countsMatch, linksFit, numbersFit, inspected};
 ghost use Rattle.inspect.specs.Lent.{numbersOn, linksOn, LinksToFit};
 
@@ -179,15 +179,39 @@ fn marks_match(changed: &[u16], seen: &[u32; 8192]) -> bool
     ok
 }
 
+// One link more counts for a record, in the tally that begins here.
+fn tally_link(tally: &mut [u16; 8320], from: usize, value: u16)
+    requires { ⌜ (from ≤ 6240) × Each (λ x. x ≤ 8191) (now tally) ⌝ }
+    ensures { λ _. ⌜ now (tally .exit) ≡ raised (now (tally .entry)) (from + value % 2048) ⌝ }
+{
+    let place = from + wide(value % 2048);
+    tally[place] = tally[place] + 1;
+}
+
+// How many of the first links count for each record, four links in a turn, one for each tally; and how many links these are.
+fn tally_fours(tally: &mut [u16; 8320], last: &[u16; 8192], links: usize) -> usize
+    requires { ⌜ (now tally ≡ replicate 8320 0) × (links ≤ 8192) ⌝ }
+    ensures { λ l. ⌜ (l ≤ links) × (now (tally .exit) ≡ tallied (now (last .entry)) l (replicate 8320 0)) × Each (λ x. x ≤ l) (now (tally .exit)) ⌝ }
+{
+    let mut l = 0;
+    while l + 3 < links {
+        tally_link(tally, 0, last[l]);
+        tally_link(tally, 2080, last[l + 1]);
+        tally_link(tally, 4160, last[l + 2]);
+        tally_link(tally, 6240, last[l + 3]);
+        l += 4;
+    }
+    l
+}
+
 // How many of the first links count for each record, in four tallies side by side.
 fn tally_links(tally: &mut [u16; 8320], last: &[u16; 8192], links: usize)
     requires { ⌜ (now tally ≡ replicate 8320 0) × (links ≤ 8192) ⌝ }
     ensures { λ _. ⌜ (now (tally .exit) ≡ tallied (now (last .entry)) links (replicate 8320 0)) × Each (λ x. x ≤ 8192) (now (tally .exit)) ⌝ }
 {
-    let mut l = 0;
+    let mut l = tally_fours(tally, last, links);
     while l < links {
-        let place = l % 4 * 2080 + wide(last[l] % 2048);
-        tally[place] = tally[place] + 1;
+        tally_link(tally, l % 4 * 2080, last[l]);
         l += 1;
     }
 }
