@@ -1,4 +1,5 @@
 -- A text in a buffer.
+--     sets-append      two texts are stored one after the other
 --     written-text     any text
 --     written-both     a text, and then another right behind it
 --     written-rest     of two texts the first is written, and the second is left
@@ -15,7 +16,7 @@ use lib.ListN.{length, set, length-append}
 use lib.Seq.{sets, set-comm, length-sets, sets-eq, take-at}
 use Rattle.text.specs.Text.{Written, StartsWith}
 
-sets-append : (a b l : List ℕ) (i : ℕ) → sets l i (a ++ b) ≡ sets (sets l i a) (i + length a) b
+pub sets-append : (a b l : List ℕ) (i : ℕ) → sets l i (a ++ b) ≡ sets (sets l i a) (i + length a) b
 sets-append [] b l i = rw (add-zero i)
 sets-append (x ∷ a) b l i =
     sets-append a b (set l i x) (suc i)
