@@ -6,7 +6,8 @@
 //     phase_fits, counted_to, uncleared_from     the collector's record, and where it parts the history
 //     enter, enter_logs, take_values             the entries of a list, of all logs, and the links' values are noted
 //     marks_match                                each changed mark against what was seen of its link
-//     tally_link, tally_fours, tally_links, counts_match     each count against the tally of its record
+//     tally_link, tally_fours, tally_links       how many links count for each record
+//     counts_match                               each count against the tally of its record
 //     numbers_fit, links_fit                     the parts of the check
 use rules::Collector;
 use rules::Sizes;
