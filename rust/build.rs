@@ -14,8 +14,8 @@ fn main() {
     println!("cargo:rerun-if-changed={}", library.display());
     if !library.is_file() {
         eprintln!("yuyarisun: there is no {}.", library.display());
-        eprintln!("Run `rt staticlib yuyarisun` at the head of the repository, which proves the library");
-        eprintln!("and writes it, or name the folder that has it in YUYARISUN_LIB_DIR.");
+        eprintln!("Run `tools/prove staticlib yuyarisun` at the head of the repository, which proves the");
+        eprintln!("library and writes it, or name the folder that has it in YUYARISUN_LIB_DIR.");
         process::exit(1);
     }
     println!("cargo:rustc-link-search=native={}", folder.display());
