@@ -33,6 +33,15 @@
 //! # Ok::<(), yuyarisun::Refusal>(())
 //! ```
 
+// The floors of the crate, from the top down: a module uses modules of lower floors alone, and raw alone has unsafe code. tests/floors.rs holds them to it.
+//     replay             a trace replayed on tables of its own
+//     pool               a pool that owns its tables
+//     trace              what is answered to events and to traces, and the checked calls
+//     lent               tables that are in the open
+//     raw                the library on slices and numbers, and every `unsafe`
+//     event              events, records and fields as values
+//     refusal, sizes     why a call refuses; sizes, tables and the collector's record
+
 #![deny(missing_docs)]
 #![deny(unsafe_code)]
 #![deny(unsafe_op_in_unsafe_fn)]
@@ -42,6 +51,7 @@ mod lent;
 mod pool;
 mod raw;
 mod refusal;
+mod replay;
 mod sizes;
 mod trace;
 
@@ -49,8 +59,9 @@ pub use event::{Event, Field, Record};
 pub use lent::Lent;
 pub use pool::Pool;
 pub use refusal::Refusal;
+pub use replay::{replay, Replay};
 pub use sizes::{Collector, Sizes, Tables};
-pub use trace::{answers_in, answers_length, replay, Answer, Replay, Stop, Whole};
+pub use trace::{answers_in, answers_length, Answer, Stop, Whole};
 
 /// The examples of the page for newcomers are tried with those of the crate.
 #[cfg(doctest)]

@@ -1,17 +1,16 @@
 //! A pool that owns its tables.
 
 use crate::event::{Event, Record};
-use crate::lent::Lent;
 use crate::raw::{self, Sound};
 use crate::refusal::Refusal;
 use crate::sizes::{Collector, Sizes, Tables};
-use crate::trace::Answer;
+use crate::trace::{answered, Answer};
 
 /// A pool of records, its workers and its collector, with tables of its own.
 ///
 /// The tables are made fresh, or checked once, and changed by events alone, each of which leaves a
 /// sound pool a sound pool; so an event on a `Pool` does not look through the tables first, as it
-/// does on [`Lent`] ones.
+/// does on [`Lent`](crate::Lent) ones.
 ///
 /// In every call `w` is a worker, `r` and `q` are registers of it, and `f` is a link of the record
 /// in `q`, each counted from 0.
@@ -32,7 +31,7 @@ impl Pool {
     /// assert_eq!(Pool::new(Sizes { n: 1025, k: 8, w: 8, r: 16 }), Err(Refusal::WrongSize));
     /// ```
     pub fn new(sizes: Sizes) -> Result<Pool, Refusal> {
-        Sound::fresh(sizes).map(|sound| Pool { sound })
+        Sound::fresh(sizes).map(|sound| Pool { sound }).ok_or(Refusal::WrongSize)
     }
 
     /// The pool that lies in tables from elsewhere, which are checked once.
@@ -57,13 +56,14 @@ impl Pool {
     /// # Ok::<(), Refusal>(())
     /// ```
     pub fn from_tables(sizes: Sizes, tables: Tables, collector: Collector) -> Result<Pool, Refusal> {
-        Sound::checked(Lent { sizes, tables, collector }).map(|sound| Pool { sound })
+        let fits = sizes.in_range() && tables.are_exact(sizes);
+        let refusal = if fits { Refusal::NotSound } else { Refusal::WrongSize };
+        Sound::checked(sizes, tables, collector).map(|sound| Pool { sound }).ok_or(refusal)
     }
 
     /// The tables and the collector's record, to put away.
     pub fn into_tables(self) -> (Tables, Collector) {
-        let lent = self.sound.into_lent();
-        (lent.tables, lent.collector)
+        self.sound.into_tables()
     }
 
     /// Any event: its value, or why it is refused.
@@ -79,7 +79,8 @@ impl Pool {
     /// # Ok::<(), Refusal>(())
     /// ```
     pub fn event(&mut self, event: Event) -> Answer {
-        self.sound.event(event)
+        let (number, value) = self.sound.event(event);
+        answered(number, value)
     }
 
     /// Many events, one after another: what each is answered. One that is refused changes nothing,
@@ -212,12 +213,12 @@ impl Pool {
 
     /// The sizes that it was made with.
     pub fn sizes(&self) -> Sizes {
-        self.sound.lent().sizes
+        self.sound.sizes()
     }
 
     /// The collector's own record.
     pub fn collector(&self) -> Collector {
-        self.sound.lent().collector
+        self.sound.collector()
     }
 
     /// The tables, to read.
@@ -232,6 +233,6 @@ impl Pool {
     /// # Ok::<(), yuyarisun::Refusal>(())
     /// ```
     pub fn tables(&self) -> &Tables {
-        &self.sound.lent().tables
+        self.sound.tables()
     }
 }

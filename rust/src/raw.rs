@@ -1,23 +1,20 @@
-//! The static library, and all unsafe code of this crate.
+//! The static library on slices and numbers, and all unsafe code of this crate.
 //!
-//! - `checked_event`, `fresh`, `is_sound`, `free_records`, `events`, `trace`  the calls that take any
-//!   tables
+//! - `event`, `fresh`, `is_sound`, `free_records`, `events`, `trace`  the calls that take any tables,
+//!   each answered in numbers
 //! - `Sound`  tables that are known to be a sound pool's, and the event that checks nothing
 //!
 //! What a caller of the library owes. A table is lent as a pointer and how many numbers it points
 //! to, and no two of the things lent may overlap. That is all that the public functions ask for:
 //! they are proved to take any sizes, any tables, any event and any bytes. Here the tables are the
 //! `Vec`s of one `Tables`, each lent with its own length, which are alive, aligned and apart; so are
-//! the slices of bytes and of answers, which are behind other references. An exported function keeps
-//! no pointer and does not unwind.
+//! the collector's record and the slices of bytes and of answers, which are behind other references.
+//! An exported function keeps no pointer and does not unwind.
 
 #![allow(unsafe_code)]
 
 use crate::event::Event;
-use crate::lent::Lent;
-use crate::refusal::Refusal;
 use crate::sizes::{Collector, Sizes, Tables};
-use crate::trace::{answered, Answer, Stop, Whole};
 
 /// Declares functions that are lent the tables by way of `$table`; what comes first stands in the
 /// brackets, and what each takes besides behind the dots.
@@ -88,56 +85,51 @@ extern "C" {
 /// Calls a function with what comes first, with the tables by way of `$pointer`, and with what it
 /// takes besides.
 macro_rules! lend_tables {
-    ($name:ident, [$($first:expr),*], $lent:ident, $pointer:ident $(, $more:expr)*) => {
+    ($name:ident, [$($first:expr),*], $tables:expr, $pointer:ident $(, $more:expr)*) => {
         $name(
             $($first,)*
-            $lent.tables.used.$pointer(), $lent.tables.used.len(),
-            $lent.tables.counts.$pointer(), $lent.tables.counts.len(),
-            $lent.tables.held.$pointer(), $lent.tables.held.len(),
-            $lent.tables.candidates.$pointer(), $lent.tables.candidates.len(),
-            $lent.tables.makers.$pointer(), $lent.tables.makers.len(),
-            $lent.tables.values.$pointer(), $lent.tables.values.len(),
-            $lent.tables.changed.$pointer(), $lent.tables.changed.len(),
-            $lent.tables.registers.$pointer(), $lent.tables.registers.len(),
-            $lent.tables.snoops.$pointer(), $lent.tables.snoops.len(),
-            $lent.tables.logs.$pointer(), $lent.tables.logs.len(),
-            $lent.tables.history.$pointer(), $lent.tables.history.len(),
-            $lent.tables.lengths.$pointer(), $lent.tables.lengths.len()
+            $tables.used.$pointer(), $tables.used.len(),
+            $tables.counts.$pointer(), $tables.counts.len(),
+            $tables.held.$pointer(), $tables.held.len(),
+            $tables.candidates.$pointer(), $tables.candidates.len(),
+            $tables.makers.$pointer(), $tables.makers.len(),
+            $tables.values.$pointer(), $tables.values.len(),
+            $tables.changed.$pointer(), $tables.changed.len(),
+            $tables.registers.$pointer(), $tables.registers.len(),
+            $tables.snoops.$pointer(), $tables.snoops.len(),
+            $tables.logs.$pointer(), $tables.logs.len(),
+            $tables.history.$pointer(), $tables.history.len(),
+            $tables.lengths.$pointer(), $tables.lengths.len()
             $(, $more)*
         )
     };
 }
 
-/// The same with the sizes first.
-macro_rules! lend {
-    ($name:ident, $lent:ident, $pointer:ident $(, $more:expr)*) => {
+/// The same of a function that writes: the sizes first, and the collector's record behind the tables.
+macro_rules! lend_a_pool {
+    ($name:ident, $sizes:expr, $tables:expr, $collector:expr $(, $more:expr)*) => {
         lend_tables!(
-            $name, [$lent.sizes.n, $lent.sizes.k, $lent.sizes.w, $lent.sizes.r], $lent, $pointer
-            $(, $more)*
-        )
-    };
-}
-
-/// The same of a function that writes: the collector's record goes behind the tables.
-macro_rules! lend_to_write {
-    ($name:ident, $lent:ident $(, $more:expr)*) => {
-        lend!(
-            $name, $lent, as_mut_ptr,
-            &mut $lent.collector.phase, &mut $lent.collector.position, &mut $lent.collector.closed
+            $name, [$sizes.n, $sizes.k, $sizes.w, $sizes.r], $tables, as_mut_ptr,
+            &mut $collector.phase, &mut $collector.position, &mut $collector.closed
             $(, $more)*
         )
     };
 }
 
 /// One event on any tables: the call asks for sizes and lengths, then for a sound pool, and only
-/// then looks at the event.
-pub(crate) fn checked_event(lent: &mut Lent, event: Event) -> Answer {
+/// then looks at the event. Its number and its value.
+pub(crate) fn event(
+    sizes: Sizes,
+    tables: &mut Tables,
+    collector: &mut Collector,
+    event: Event,
+) -> (u16, u16) {
     let mut value = 0;
     macro_rules! call {
         ($name:ident $(, $number:expr)*) => {
-            // SAFETY: a public function, lent tables that are apart, behind a `&mut`; `value` is a
-            // local.
-            unsafe { lend_to_write!($name, lent, &mut value $(, $number)*) }
+            // SAFETY: a public function, lent tables that are apart, behind a `&mut`, and the
+            // collector's record behind another; `value` is a local.
+            unsafe { lend_a_pool!($name, sizes, tables, collector, &mut value $(, $number)*) }
         };
     }
     let number = match event {
@@ -148,38 +140,53 @@ pub(crate) fn checked_event(lent: &mut Lent, event: Event) -> Answer {
         Event::Store { w, q, f, r } => call!(yuyarisun_store, w, q, f, r),
         Event::Collect => call!(yuyarisun_collect),
     };
-    answered(number, value)
+    (number, value)
 }
 
 /// Makes any tables a fresh pool, if the sizes are in range and the lengths exact.
-pub(crate) fn fresh(lent: &mut Lent) -> Result<(), Refusal> {
-    // SAFETY: a public function, lent tables that are apart, behind a `&mut`.
-    let number = unsafe { lend_to_write!(yuyarisun_fresh, lent) };
-    answered(number, 0).map(|_| ())
+pub(crate) fn fresh(sizes: Sizes, tables: &mut Tables, collector: &mut Collector) -> u16 {
+    // SAFETY: a public function, lent as in `event`.
+    unsafe { lend_a_pool!(yuyarisun_fresh, sizes, tables, collector) }
 }
 
 /// Whether sizes are in range, every length is exact and the pool is sound.
-pub(crate) fn is_sound(lent: &Lent) -> bool {
-    let Collector { phase, position, closed } = lent.collector;
+pub(crate) fn is_sound(sizes: Sizes, tables: &Tables, collector: Collector) -> bool {
+    let (Sizes { n, k, w, r }, Collector { phase, position, closed }) = (sizes, collector);
     // SAFETY: a public function, lent tables to read alone, behind a `&`.
-    unsafe { lend!(yuyarisun_sound, lent, as_ptr, phase, position, closed) }
+    unsafe { lend_tables!(yuyarisun_sound, [n, k, w, r], tables, as_ptr, phase, position, closed) }
+}
+
+/// How many events, or a trace, ended.
+pub(crate) struct Ended {
+    /// 0 if every byte was taken, else why a field was refused.
+    pub number: u16,
+    /// How many events were done.
+    pub events: usize,
+    /// How many records are free at the end of a whole trace, else 0.
+    pub free: u16,
+    /// Where the field begins that was refused, else 0.
+    pub place: usize,
 }
 
 /// Many events at once, on tables that are looked through once.
 pub(crate) fn events(
-    lent: &mut Lent,
+    sizes: Sizes,
+    tables: &mut Tables,
+    collector: &mut Collector,
     bytes: &[u8],
     step: &mut u32,
     answers: &mut [u16],
-) -> Result<usize, Stop> {
+) -> Ended {
     let (mut events, mut place) = (0, 0);
-    // SAFETY: a public function, lent tables that are apart, behind a `&mut`; the bytes are behind a
-    // `&`, and the answers and the step number behind two `&mut` of their own, each slice with its
-    // own length; the others are locals.
+    // SAFETY: a public function, lent as in `event`; the bytes are behind a `&`, and the answers and
+    // the step number behind two `&mut` of their own, each slice with its own length; the others are
+    // locals.
     let number = unsafe {
-        lend_to_write!(
+        lend_a_pool!(
             yuyarisun_events,
-            lent,
+            sizes,
+            tables,
+            collector,
             bytes.as_ptr(),
             bytes.len(),
             step,
@@ -189,22 +196,27 @@ pub(crate) fn events(
             &mut place
         )
     };
-    stopped(number, place, events).map_or(Ok(events), Err)
+    Ended { number, events, free: 0, place }
 }
 
 /// A whole trace on any tables.
-pub(crate) fn trace(lent: &mut Lent, bytes: &[u8], answers: &mut [u16]) -> Result<Whole, Stop> {
+pub(crate) fn trace(
+    tables: &mut Tables,
+    collector: &mut Collector,
+    bytes: &[u8],
+    answers: &mut [u16],
+) -> Ended {
     let (mut events, mut free, mut place) = (0, 0, 0);
     // SAFETY: as in `events`.
     let number = unsafe {
         lend_tables!(
             yuyarisun_trace,
             [],
-            lent,
+            tables,
             as_mut_ptr,
-            &mut lent.collector.phase,
-            &mut lent.collector.position,
-            &mut lent.collector.closed,
+            &mut collector.phase,
+            &mut collector.position,
+            &mut collector.closed,
             bytes.as_ptr(),
             bytes.len(),
             answers.as_mut_ptr(),
@@ -214,12 +226,7 @@ pub(crate) fn trace(lent: &mut Lent, bytes: &[u8], answers: &mut [u16]) -> Resul
             &mut place
         )
     };
-    stopped(number, place, events).map_or(Ok(Whole { events, free }), Err)
-}
-
-/// Where many events or a trace stopped, if they did.
-fn stopped(number: u16, place: usize, events: usize) -> Option<Stop> {
-    Refusal::of_number(number).map(|refusal| Stop { refusal, place, events })
+    Ended { number, events, free, place }
 }
 
 /// How many of the marks are 0.
@@ -232,52 +239,63 @@ pub(crate) fn free_records(used: &[u16]) -> usize {
 /// "A sound pool". Outside this module nobody makes one but by `fresh` and `checked`, and nobody
 /// changes one but by `event`.
 #[derive(Clone, Debug, PartialEq, Eq)]
-pub(crate) struct Sound(Lent);
+pub(crate) struct Sound {
+    sizes: Sizes,
+    tables: Tables,
+    collector: Collector,
+}
 
 impl Sound {
-    /// A fresh pool, which is sound: `fresh-is-sound` of crates/soundness/proofs/Kept.antt.
-    pub fn fresh(sizes: Sizes) -> Result<Sound, Refusal> {
+    /// A fresh pool, which is sound: `fresh-is-sound` of crates/soundness/proofs/Kept.antt. None
+    /// where a size is out of its range.
+    pub fn fresh(sizes: Sizes) -> Option<Sound> {
         if !sizes.in_range() {
-            return Err(Refusal::WrongSize);
+            return None;
         }
-        let mut lent = Lent { sizes, tables: Tables::zeros(sizes), collector: Collector::default() };
-        fresh(&mut lent)?;
-        Ok(Sound(lent))
+        let (mut tables, mut collector) = (Tables::zeros(sizes), Collector::default());
+        let number = fresh(sizes, &mut tables, &mut collector);
+        (number == 0).then_some(Sound { sizes, tables, collector })
     }
 
     /// Tables that the library's check finds sound. It finds so exactly those that are:
     /// crates/clauses/proofs/Exactly.antt.
-    pub fn checked(lent: Lent) -> Result<Sound, Refusal> {
-        if is_sound(&lent) {
-            Ok(Sound(lent))
-        } else if lent.sizes.in_range() && lent.tables.are_exact(lent.sizes) {
-            Err(Refusal::NotSound)
-        } else {
-            Err(Refusal::WrongSize)
-        }
+    pub fn checked(sizes: Sizes, tables: Tables, collector: Collector) -> Option<Sound> {
+        is_sound(sizes, &tables, collector).then_some(Sound { sizes, tables, collector })
     }
 
-    /// One event, without asking again whether the pool is sound.
-    pub fn event(&mut self, event: Event) -> Answer {
+    /// One event, without asking again whether the pool is sound. Its number and its value.
+    pub fn event(&mut self, event: Event) -> (u16, u16) {
         let (tag, [a, b, c, d]) = event.tag_and_numbers();
-        let lent = &mut self.0;
+        let Sound { sizes, tables, collector } = self;
         let mut value = 0;
-        // SAFETY: the tables are lent as in `checked_event`. Beyond that this function requires a
+        // SAFETY: the tables are lent as in `event` above. Beyond that this function requires a
         // sound pool in tables of exact lengths (`Known` of crates/tables/specs/Known.antt), and
         // without one it may do anything. This type keeps it: `fresh` and `checked` begin with one,
         // no table is handed out to be written, and every event on a sound pool leaves a sound
         // pool, `event-keeps-sound` of crates/soundness/proofs/Kept.antt.
-        let number = unsafe { lend_to_write!(yuyarisun_inner_event, lent, &mut value, tag, a, b, c, d) };
-        answered(number, value)
+        let number = unsafe {
+            lend_a_pool!(yuyarisun_inner_event, sizes, tables, collector, &mut value, tag, a, b, c, d)
+        };
+        (number, value)
     }
 
     /// To look at.
-    pub fn lent(&self) -> &Lent {
-        &self.0
+    pub fn sizes(&self) -> Sizes {
+        self.sizes
+    }
+
+    /// To look at.
+    pub fn collector(&self) -> Collector {
+        self.collector
+    }
+
+    /// To read.
+    pub fn tables(&self) -> &Tables {
+        &self.tables
     }
 
     /// To take apart.
-    pub fn into_lent(self) -> Lent {
-        self.0
+    pub fn into_tables(self) -> (Tables, Collector) {
+        (self.tables, self.collector)
     }
 }

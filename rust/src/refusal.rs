@@ -71,6 +71,20 @@ impl Refusal {
         Refusal::ALL.into_iter().find(|refusal| refusal.number() == number)
     }
 
+    /// What a number that a call has answered stands for: done, or why it refuses.
+    ///
+    /// Panics at a number above 12. A library that answers one is not the one that was proved, and
+    /// whatever it has done can't be taken for done.
+    pub(crate) fn answered(number: u16) -> Result<(), Refusal> {
+        match number {
+            0 => Ok(()),
+            _ => {
+                let refusal = Refusal::of_number(number);
+                Err(refusal.unwrap_or_else(|| panic!("{number} is no number that a call answers")))
+            }
+        }
+    }
+
     /// Document 01's words.
     pub fn words(self) -> &'static str {
         match self {

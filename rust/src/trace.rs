@@ -1,14 +1,13 @@
-//! Many events and whole traces, in bytes: what they are answered, and a trace replayed on tables
-//! of its own.
+//! What is answered: to an event, to many events and to whole traces in bytes; and the checked calls
+//! that answer it, on tables that are in the open.
 
 use std::error::Error;
 use std::fmt;
 
-use crate::event::Record;
+use crate::event::{Event, Record};
 use crate::lent::Lent;
-use crate::pool::Pool;
+use crate::raw;
 use crate::refusal::Refusal;
-use crate::sizes::{Collector, Sizes, Tables};
 
 /// What an event is answered: its value, or why it is refused.
 pub type Answer = Result<Option<Record>, Refusal>;
@@ -62,7 +61,7 @@ pub fn answers_length(bytes: usize) -> usize {
 
 /// The answers that [`Lent::events`] and [`Lent::trace`] put into a slice: the number and the value
 /// of each event, in turn. Of more than one call was answered, or had room for, it gives what
-/// happens to stand there.
+/// happens to stand there, and panics at a number above 12, which no call answers.
 ///
 /// ```
 /// use yuyarisun::{answers_in, Record, Refusal};
@@ -76,72 +75,98 @@ pub fn answers_in(numbers: &[u16]) -> impl Iterator<Item = Answer> + '_ {
 
 /// What an event is answered, of its number and its value.
 pub(crate) fn answered(number: u16, value: u16) -> Answer {
-    match Refusal::of_number(number) {
-        Some(refusal) => Err(refusal),
-        None => Ok(Record::of_number(value)),
+    Refusal::answered(number).map(|()| Record::of_number(value))
+}
+
+/// What many events or a trace are answered, of the numbers.
+fn whole(ended: raw::Ended) -> Result<Whole, Stop> {
+    let raw::Ended { number, events, free, place } = ended;
+    match Refusal::answered(number) {
+        Ok(()) => Ok(Whole { events, free }),
+        Err(refusal) => Err(Stop { refusal, place, events }),
     }
 }
 
-/// A trace, replayed on tables of its own. It prints as the program `replay` does.
-#[derive(Clone, Debug, PartialEq, Eq)]
-pub struct Replay {
-    /// What each event was answered; the first has step 1.
-    pub answers: Vec<Answer>,
-    /// The pool at the end of a whole trace; or where the trace is refused, and why.
-    pub ending: Result<Pool, Stop>,
-}
+/// The checked calls.
+impl Lent {
+    /// Any event: its value, or why it is refused, [`Refusal::WrongSize`] and [`Refusal::NotSound`]
+    /// before all else. A refused event changes nothing.
+    ///
+    /// ```
+    /// use yuyarisun::{Collector, Event, Lent, Refusal, Sizes, Tables};
+    ///
+    /// let sizes = Sizes { n: 4, k: 1, w: 1, r: 1 };
+    /// let mut lent = Lent { sizes, tables: Tables::zeros(sizes), collector: Collector::default() };
+    /// assert!(lent.is_sound());
+    /// assert_eq!(lent.event(Event::Collect), Ok(None));
+    /// lent.tables.registers[0] = 5; // there are 4 records
+    /// assert_eq!(lent.event(Event::Collect), Err(Refusal::NotSound));
+    /// lent.tables.registers.clear();
+    /// assert_eq!(lent.event(Event::Collect), Err(Refusal::WrongSize));
+    /// ```
+    pub fn event(&mut self, event: Event) -> Answer {
+        let (number, value) = raw::event(self.sizes, &mut self.tables, &mut self.collector, event);
+        answered(number, value)
+    }
 
-/// Replays a trace on tables that are made for the sizes that it begins with, which may be all that
-/// document 01 has. Whoever wants the tables of a trace that is refused lends them, to
-/// [`Lent::trace`].
-///
-/// ```
-/// use yuyarisun::{replay, Event, Field, Refusal, Sizes};
-///
-/// let mut trace = Vec::new();
-/// Field::Sizes(Sizes { n: 2, k: 1, w: 1, r: 1 }).put(&mut trace);
-/// let events = [Event::Make { w: 0, r: 0 }, Event::Load { w: 0, r: 0, q: 0, f: 1 }, Event::Collect];
-/// for (event, step) in events.into_iter().zip(1..) {
-///     Field::Event { step, event }.put(&mut trace);
-/// }
-/// let cut = replay(&trace).ending.unwrap_err();
-/// assert_eq!((cut.refusal, cut.place, cut.events), (Refusal::StopsShort, trace.len(), 3));
-///
-/// Field::End { count: 3 }.put(&mut trace);
-/// let whole = replay(&trace);
-/// assert_eq!(whole.answers[1], Err(Refusal::NoSuch));
-/// assert_eq!(whole.to_string(), "1 0 1\n2 3 0\n3 0 0\nend 1 0\n");
-/// assert_eq!(whole.ending?.collector().phase, 1);
-/// # Ok::<(), yuyarisun::Stop>(())
-/// ```
-pub fn replay(bytes: &[u8]) -> Replay {
-    // Of sizes that are out of range, or not there, no tables are needed: the trace is refused for
-    // it before any is touched.
-    let sizes = Sizes::of_trace(bytes).filter(|sizes| sizes.in_range());
-    let tables = sizes.map_or_else(Tables::default, Tables::zeros);
-    let sizes = sizes.unwrap_or(Sizes { n: 0, k: 0, w: 0, r: 0 });
-    let mut lent = Lent { sizes, tables, collector: Collector::default() };
-    let mut numbers = vec![0; answers_length(bytes.len())];
-    let ending = lent.trace(bytes, &mut numbers);
-    let events = ending.map_or_else(|stop| stop.events, |whole| whole.events);
-    let answers = answers_in(&numbers).take(events).collect();
-    let pool =
-        |_| Pool::from_tables(lent.sizes, lent.tables, lent.collector).expect("a trace leaves a sound pool");
-    Replay { answers, ending: ending.map(pool) }
-}
+    /// Many events at once, on tables that are looked through once: event fields one after another,
+    /// as a trace has them, the first of which has the step number behind `step`. Each is done
+    /// exactly as [`Lent::event`] would do it; `step` becomes the last step number, so that the next
+    /// call may go on with it.
+    ///
+    /// The number and the value of each event go into `answers` in turn, as far as there is room
+    /// for both ([`answers_length`] is enough for all), and what lies behind the last stays;
+    /// [`answers_in`] reads them. How many events there were is answered.
+    ///
+    /// Refuses by [`Refusal::WrongSize`] and [`Refusal::NotSound`] before anything is done, at
+    /// place 0. Else it stops at the first field that is no event, and the events before it are
+    /// done: by the refusals of a trace, and by [`Refusal::WrongTag`] at an end field that would be
+    /// right in one.
+    ///
+    /// ```
+    /// use yuyarisun::{answers_in, Collector, Event, Field, Lent, Record, Refusal, Sizes, Tables};
+    ///
+    /// let sizes = Sizes { n: 4, k: 1, w: 1, r: 1 };
+    /// let mut lent = Lent { sizes, tables: Tables::zeros(sizes), collector: Collector::default() };
+    /// let mut bytes = Vec::new();
+    /// Field::Event { step: 1, event: Event::Make { w: 0, r: 0 } }.put(&mut bytes);
+    /// Field::Event { step: 2, event: Event::Make { w: 0, r: 1 } }.put(&mut bytes);
+    ///
+    /// let (mut step, mut numbers) = (0, [0; 4]);
+    /// assert_eq!(lent.events(&bytes, &mut step, &mut numbers), Ok(2));
+    /// let answers: Vec<_> = answers_in(&numbers).collect();
+    /// assert_eq!((step, answers), (2, vec![Ok(Record::of_number(1)), Err(Refusal::NoSuch)]));
+    ///
+    /// let stop = lent.events(&bytes, &mut step, &mut []).unwrap_err();
+    /// assert_eq!((stop.refusal, stop.place, stop.events), (Refusal::WrongStep, 0, 0));
+    /// ```
+    pub fn events(&mut self, bytes: &[u8], step: &mut u32, answers: &mut [u16]) -> Result<usize, Stop> {
+        let Lent { sizes, tables, collector } = self;
+        let ended = raw::events(*sizes, tables, collector, bytes, step, answers);
+        whole(ended).map(|whole| whole.events)
+    }
 
-impl fmt::Display for Replay {
-    fn fmt(&self, out: &mut fmt::Formatter) -> fmt::Result {
-        for (step, answer) in (1..).zip(&self.answers) {
-            let step: u32 = step;
-            match answer {
-                Ok(value) => writeln!(out, "{step} 0 {}", value.map_or(0, Record::number))?,
-                Err(refusal) => writeln!(out, "{step} {} 0", refusal.number())?,
-            }
-        }
-        match &self.ending {
-            Ok(pool) => writeln!(out, "end {} {}", pool.free_records(), pool.collector().closed),
-            Err(stop) => writeln!(out, "refused {} {}", stop.refusal.number(), stop.place),
-        }
+    /// A whole trace. Its sizes field makes the tables a fresh pool, whatever they held, if they
+    /// have the lengths of its sizes; the `sizes` here are not looked at, and stay. `answers` is as
+    /// for [`Lent::events`].
+    ///
+    /// Stops where a field is refused, with the tables as the fields before left them.
+    ///
+    /// ```
+    /// use yuyarisun::{Collector, Lent, Refusal, Sizes, Tables};
+    ///
+    /// let trace = [1, 0, 8, 0, 4, 0, 1, 0, 1, 0, 1, 0x20, 0, 4, 0, 0, 0, 1, 0x7F, 0, 4, 0, 0, 0, 1];
+    /// let sizes = Sizes::of_trace(&trace).expect("the sizes stand first");
+    /// let mut lent = Lent { sizes, tables: Tables::zeros(sizes), collector: Collector::default() };
+    /// let mut numbers = [9; 3];
+    /// let whole = lent.trace(&trace, &mut numbers).unwrap();
+    /// assert_eq!((whole.events, whole.free, numbers, lent.collector.phase), (1, 4, [0, 0, 9], 1));
+    ///
+    /// lent.tables.logs.pop();
+    /// let stop = lent.trace(&trace, &mut []).unwrap_err();
+    /// assert_eq!((stop.refusal, stop.place), (Refusal::WrongSize, 0));
+    /// ```
+    pub fn trace(&mut self, bytes: &[u8], answers: &mut [u16]) -> Result<Whole, Stop> {
+        whole(raw::trace(&mut self.tables, &mut self.collector, bytes, answers))
     }
 }

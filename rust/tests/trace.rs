@@ -114,6 +114,28 @@ fn a_trace_takes_the_largest_sizes() {
     assert_eq!(replayed.ending.unwrap().free_records(), 0);
 }
 
+/// The lines of a trace whose sizes the program `replay` refuses.
+#[test]
+fn a_trace_is_printed_whatever_its_sizes() {
+    let replayed = replay(&trace(Sizes { n: 65, ..SIZES }, &[MAKE, Event::Collect]));
+    assert_eq!(replayed.to_string(), "1 0 1\n2 0 0\nend 64 0\n");
+}
+
+#[test]
+fn the_answers_of_every_number() {
+    let numbers: Vec<u16> = (0..=12).flat_map(|number| [number, 0]).collect();
+    let answers: Vec<Answer> = answers_in(&numbers).collect();
+    let refusals = Refusal::ALL.into_iter().map(Err);
+    assert!(answers.into_iter().eq(std::iter::once(Ok(None)).chain(refusals)));
+}
+
+/// A number that no call answers is not taken for done.
+#[test]
+#[should_panic(expected = "13 is no number that a call answers")]
+fn a_number_above_12_is_no_answer() {
+    answers_in(&[0, 1, 13, 1]).for_each(drop);
+}
+
 #[test]
 fn tables_of_other_lengths_are_not_touched_by_a_trace() {
     let bytes = whole_case();
