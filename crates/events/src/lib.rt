@@ -1,5 +1,5 @@
-// Any event on a pool that is known to be sound, which lies in lent tables. Inner (decision 4 of docs/DECISIONS.md): the call that takes any tables is
-// `pool::event`.
+// Any event on a pool that is known to be sound, which lies in lent tables. All of it is inner (decision 4 of docs/DECISIONS.md): the call that takes any
+// tables is `pool::event`.
 //     event_known    one event
 //     collects       one collect event: the step of its phase
 use count::counts as counts_step;

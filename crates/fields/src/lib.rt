@@ -1,9 +1,9 @@
-// The field reader: what stands at a place of a trace, by document 01's field rules.
+// The field reader: what stands at a place of a trace, by document 01's field rules. All of it is inner (decision 4 of docs/DECISIONS.md).
 //     Stage, Reader      what may come next: the sizes, an event or the end, or nothing; and the last step number
 //     Field, Read        what stands at a place, the place behind it, and what may come then
 //     read_at            the field reader. It takes any bytes, any place and any state of the reader
-// Inner: payload_of, is_misplaced, two_at, four_at, sizes_at, event_at, which read a field's parts; take_field and read_field, which read a field; event_size, which
-// tells where an event stands, for whoever reads events one after another.
+//     event_size         where an event stands, for whoever reads events one after another
+// Below these: payload_of, is_misplaced, two_at, four_at, sizes_at, event_at, which read a field's parts; take_field and read_field, which read a field.
 use rules::Event;
 use rules::Refusal;
 use rules::Sizes;

@@ -53,7 +53,7 @@ fn is_exact(
         & (lengths.len() == workers + 1)
 }
 
-// "1: a size is out of its range, or a lent table has another length": it is not so.
+// "1: a size is out of its range, or a lent table has another length": it is not so. Inner.
 pub fn has_shape(
     s: Sizes,
     used: &[u16],

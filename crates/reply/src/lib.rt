@@ -1,4 +1,5 @@
-// What an answer stands for, in code: the number and the value of "Numbers a call may answer".
+// What an answer stands for, in code: the number and the value of "Numbers a call may answer". All of it is inner (decision 4 of
+// docs/DECISIONS.md), and takes any answer.
 //     refusal_number           the number of a refusal
 //     number_of, value_of      the number and the value of an answer
 use rules::Answer;

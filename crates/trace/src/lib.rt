@@ -65,7 +65,7 @@ pub struct Stood {
 }
 
 // The events that stand one after another from a place on, up to the first field that is none, on a pool that is known to be sound. Each event's number and value
-// are put into `answers` in turn, as far as there is room.
+// are put into `answers` in turn, as far as there is room. Inner.
 pub fn run_events(
     s: Sizes,
     used: &mut [u16],
@@ -137,7 +137,7 @@ pub fn run_events(
 }
 
 // How a trace stands behind its events: at the end field and nothing more behind it, or at what is refused. Where fewer than 13 bytes are left and more may come
-// a field may not have been read whole.
+// a field may not have been read whole. Inner.
 pub fn stand_behind(
     used: &[u16],
     closed: u16,
