@@ -6,6 +6,8 @@ use advance::onward;
 use advance::stepped;
 use rules::Answered;
 use rules::Collector;
+use rules::LinkNumber;
+use rules::RecordNumber;
 use rules::Sizes;
 use tables::list::clear;
 use tables::list::copy;
@@ -97,7 +99,8 @@ pub fn clears(
 {
     let entries = lengths[wide(s.w)];
     let at = wide(c.position) * 2;
-    set_mark(changed, wide(history[at]), false);
+    let l = LinkNumber(history[at]);
+    set_mark(changed, wide(l.0), false);
     stepped(onward(c, entries, entries))
 }
 
@@ -108,9 +111,9 @@ fn held_by(held: &mut [u16], registers: &[u16])
 {
     let mut r = 0;
     while r < registers.len() {
-        let a = registers[r];
-        if a != 0 {
-            set_mark(held, wide(a) - 1, true);
+        let a = RecordNumber(registers[r]);
+        if a.0 != 0 {
+            set_mark(held, wide(a.0) - 1, true);
         }
         r += 1;
     }

@@ -1,12 +1,15 @@
 // `replay`: reads a trace from standard input to its end and prints document 01's lines, in constant memory.
 //     main          the arrays, and a turn for each read
-//     read_more     a read, behind what is left
+//     read_again    a read that is tried again where it was interrupted or would have had to wait
+//     read_more     such a read, behind what is left
 //     keep_rest     what is left of a part becomes the beginning of the next one
 //     print         a text on standard output
+//     say_unended   the turns have run out
 // What is printed for the bytes that were read is `printed` of parts/specs/Printed.antt, a turn for each piece: what `part_text` puts into the buffer, and behind the
 // last part what `put_ending` does. docs/DECISIONS.md says how far a theorem reaches here.
 use fields::Reader;
 use fields::Stage;
+use libc::STDERR_FILENO;
 use libc::STDIN_FILENO;
 use libc::STDOUT_FILENO;
 use parts::Progress;
@@ -19,13 +22,48 @@ ghost use Prim.Native.Nat.{_≤_};
 ghost use lib.ListN.{length};
 ghost use Rattle.replay.specs.Input.{Reads, Keeps};
 
-// Reads once, behind the `left` bytes that are left, and answers how many bytes there are now: no more where the input has ended, or a read fails.
-fn read_more(input: &mut [u8], left: usize) -> usize
+// What a read brought: whether it did not fail, and how many bytes there are now.
+struct Got {
+    is_read: bool,
+    n: usize,
+}
+
+// Whether a read failed in passing: a signal interrupted it, or nothing is there yet on an input that does not wait.
+fn is_passing(error: i32) -> bool {
+    (error == libc::EINTR) | (error == libc::EAGAIN)
+}
+
+// Reads once; a read that failed in passing is tried again, after others had their turn.
+fn read_again(buf: &mut [u8]) -> isize {
+    let mut tries = 1099511627776u64;
+    while tries > 0 {
+        tries -= 1;
+        let got = libc::read(STDIN_FILENO, buf);
+        if got >= 0 {
+            return got;
+        }
+        if !is_passing(os::errno()) {
+            return got;
+        }
+        libc::sched_yield();
+    }
+    -1
+}
+
+// Reads once, behind the `left` bytes that are left, and answers how many bytes there are now: no more where the input has ended. A read that fails is said on
+// standard error, and then nobody knows what follows.
+fn read_more(input: &mut [u8], left: usize) -> Got
     requires { ⌜ left ≤ length (now input) ⌝ }
-    ensures { λ n. ⌜ Reads (now (input .entry)) left n (now (input .exit)) ⌝ }
+    ensures { λ x. ⌜ Reads (now (input .entry)) left (x .n) (now (input .exit)) ⌝ }
 {
-    let got = libc::read(STDIN_FILENO, &mut input[left..]);
-    left + io::count(got, &input[left..])
+    let got = read_again(&mut input[left..]);
+    if got < 0 {
+        os::fail(b"replay: the trace can't be read");
+    }
+    Got {
+        is_read: got >= 0,
+        n: left + io::count(got, &input[left..]),
+    }
 }
 
 // The bytes from one place up to another move to the front.
@@ -51,8 +89,16 @@ fn print(text: &[u8]) -> bool {
     is_written
 }
 
-// A proved loop has to end, and nothing says that an input does. So the turns are counted down, from a number that no run uses up; the last turn is for the last
-// part. Behind the last byte of a trace nothing is waited for, so that the last part ends the trace.
+// No run uses up the turns; one that did would have no last line.
+fn say_unended() {
+    io::write_all(
+        STDERR_FILENO,
+        b"replay: the trace has not ended after 1099511627776 reads\n",
+    );
+}
+
+// A proved loop has to end, and nothing says that an input does. So the turns are counted down, from a number that no run uses up. Behind the last byte of a trace
+// nothing is waited for, so that the last part ends the trace. Where a read fails, or the turns run out, no last line is made up.
 fn main() {
     let mut used = [0u16; 64];
     let mut counts = [0u16; 64];
@@ -91,8 +137,12 @@ fn main() {
     let mut turns = 1099511627776u64;
     while turns > 0 {
         turns -= 1;
-        let n = read_more(&mut input, left);
-        let last = (n == left) | (turns == 0);
+        let got = read_more(&mut input, left);
+        if !got.is_read {
+            return;
+        }
+        let n = got.n;
+        let last = n == left;
         let taken = part_text(
             &mut used,
             &mut counts,
@@ -129,4 +179,5 @@ fn main() {
         left = n - next;
         progress = part.progress;
     }
+    say_unended();
 }

@@ -25,12 +25,12 @@ wide-requires-2 c κs = search needs
 mul-at : tie.Need-mul-at
 mul-at c = search needs
 
-mul-wide : tie.Need-mul-wide
-mul-wide c = search needs
+mul-t10 : tie.Need-mul-t10
+mul-t10 c = search needs
 
-shared-slice-read-wide : tie.Need-shared-slice-read-wide
-shared-slice-read-wide c =
-    let start = c .before .before .before .before .before .before .before .before in
+shared-slice-read-t12 : tie.Need-shared-slice-read-t12
+shared-slice-read-t12 c =
+    let start = c .before .before .before .before .before .before .before in
     omega (arith, entry-inside (start .pre .1) (inl (start .pre .2)), start .pre .1 .exact .history)
 
 wide-requires-3 : tie.Need-wide-requires-3
@@ -78,8 +78,8 @@ clears-spec =
     shared-slice-read-entries
     wide-requires-2
     mul-at
-    mul-wide
-    shared-slice-read-wide
+    mul-t10
+    shared-slice-read-t12
     wide-requires-3
     set-mark-requires
     onward-requires

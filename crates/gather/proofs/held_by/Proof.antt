@@ -25,11 +25,11 @@ abbrev μ-loop : tie.MeasureT-loop
 loop-holds : tie.Need-loop-holds Inv-loop μ-loop
 loop-holds c = (search needs, refl, refl)
 
-mul-a : tie.Need-mul-a Inv-loop μ-loop
-mul-a c = search needs
+mul-t5 : tie.Need-mul-t5 Inv-loop μ-loop
+mul-t5 c = search needs
 
-shared-slice-read-a : tie.Need-shared-slice-read-a Inv-loop μ-loop
-shared-slice-read-a c = search needs
+shared-slice-read-t8 : tie.Need-shared-slice-read-t8 Inv-loop μ-loop
+shared-slice-read-t8 c = search needs
 
 wide-requires : tie.Need-wide-requires Inv-loop μ-loop
 wide-requires c κs = search needs
@@ -39,8 +39,8 @@ sub-set-mark c = search needs
 
 set-mark-requires : tie.Need-set-mark-requires Inv-loop μ-loop
 set-mark-requires c κs =
-    let start = c .before .before .before .before .before .before .before .before in
-    let at = c .before .before .before .before .before .loop in
+    let start = c .before .before .before .before .before .before .before .before .before in
+    let at = c .before .before .before .before .before .before .loop in
     omega (arith, Each-at (λ a. a ≤ length (start .args .held .now)) (start .args .registers .now) (at .r) 0 (omega arith) (start .pre))
 
 add-r : tie.Need-add-r Inv-loop μ-loop
@@ -51,8 +51,8 @@ loop-less c = search needs
 
 loop-again : tie.Need-loop-again Inv-loop μ-loop
 loop-again c =
-    let at = c .before .before .before .loop in
-    let registers = c .before .before .before .before .before .before .args .registers .now in
+    let at = c .before .before .before .before .loop in
+    let registers = c .before .before .before .before .before .before .before .args .registers .now in
     let a : ℕ = getD registers (at .r) 0 in
     let marked : c .if1 .held ≡ withRecord (at .held) a 1 =
     ⊎-elim
@@ -83,8 +83,8 @@ held-by-spec =
     Inv-loop
     μ-loop
     loop-holds
-    mul-a
-    shared-slice-read-a
+    mul-t5
+    shared-slice-read-t8
     wide-requires
     sub-set-mark
     set-mark-requires

@@ -28,7 +28,7 @@ abbrev μ-loop : tie.MeasureT-loop
 
 -- what was read
 abbrev fromPart : tie.After-part-text Inv-loop μ-loop → tie.After-read-more Inv-loop μ-loop
-fromPart c = c .before .before .before .before .before .before .before .before .before .before .before .before .before .before .before .before .before
+fromPart c = c .before .before .before .before .before .before .before .before .before .before .before .before .before .before .before .before .before .before .before
 
 abbrev fromRead : tie.After-read-more Inv-loop μ-loop → tie.At-loop Inv-loop μ-loop
 fromRead c = c .before .before .before
@@ -37,12 +37,12 @@ fromRead c = c .before .before .before
 input-long : (c : tie.After-input2 Inv-loop μ-loop) → length (c .before .read-more .last .0) ≡ 16384
 input-long c = c .input2 .given
 
-read-most : (c : tie.After-input2 Inv-loop μ-loop) → c .before .read-more .result ≤ 16384
+read-most : (c : tie.After-input2 Inv-loop μ-loop) → c .before .read-more .result .n ≤ 16384
 read-most c = omega (arith, input-long c, c .before .read-more .ensures .inside)
 
 -- the bytes of the part
-part-long : (c : tie.After-input2 Inv-loop μ-loop) → c .before .read-more .result ≡ length (take (c .before .read-more .result) (c .before .read-more .last .0))
-part-long c = counted (c .before .read-more .result) (c .before .read-more .last .0) (c .before .read-more .ensures .inside)
+part-long : (c : tie.After-input2 Inv-loop μ-loop) → c .before .read-more .result .n ≡ length (take (c .before .read-more .result .n) (c .before .read-more .last .0))
+part-long c = counted (c .before .read-more .result .n) (c .before .read-more .last .0) (c .before .read-more .ensures .inside)
 
 -- the text is as long as it was
 text-long : (c : tie.After-text2 Inv-loop μ-loop) → length (c .before .before .before .before .before .before .before .before .before .before .before .before .before .before .part-text .last .1 .1 .1 .1 .1 .1 .1 .1 .1 .1 .1 .1 .1 .1 .1 .1 .0) ≡ 56272
@@ -50,11 +50,11 @@ text-long c = c .text2 .given
 
 -- a part that waits
 waits-there : (c : tie.After-enum-told Inv-loop μ-loop)
-    → let part = c .before .before .before .before .before .before .before .before .before .before .before .before .before .before .before .before .before .before .before .before in (part .part-text .result .part .next ≤ fromPart part .read-more .result) × (fromPart part .read-more .result < part .part-text .result .part .next + 13)
+    → let part = c .before .before .before .before .before .before .before .before .before .before .before .before .before .before .before .before .before .before .before .before in (part .part-text .result .part .next ≤ fromPart part .read-more .result .n) × (fromPart part .read-more .result .n < part .part-text .result .part .next + 13)
 waits-there c =
     let part = c .before .before .before .before .before .before .before .before .before .before .before .before .before .before .before .before .before .before .before .before in
     let w = part-waiting _ _ _ _ (part .part-text .ensures) (c .enum-told .given .1) in
-    let long = part-long (part .before .before .before .before .before .before .before .before .before .before .before .before .before .before .before .before) in
+    let long = part-long (part .before .before .before .before .before .before .before .before .before .before .before .before .before .before .before .before .before .before) in
     (omega (arith, w .0, long), omega (arith, w .1, long))
 
 loop-holds : tie.Need-loop-holds Inv-loop μ-loop
@@ -70,58 +70,61 @@ slice-aggregate-read-more c = sym (c .before .before .loop .inv .input)
 read-more-requires : tie.Need-read-more-requires Inv-loop μ-loop
 read-more-requires c κs = let at = c .before .before .loop .inv in omega (arith, at .input, at .few)
 
+returns : tie.Need-returns Inv-loop μ-loop
+returns c = search needs
+
 slice-aggregate-part-text : tie.Need-slice-aggregate-part-text Inv-loop μ-loop
-slice-aggregate-part-text c = sym (c .before .before .before .before .before .loop .inv .set .long .used)
+slice-aggregate-part-text c = sym (c .before .before .before .before .before .before .before .loop .inv .set .long .used)
 
 slice-aggregate-part-text-2 : tie.Need-slice-aggregate-part-text-2 Inv-loop μ-loop
-slice-aggregate-part-text-2 c = sym (c .before .before .before .before .before .before .loop .inv .set .long .counts)
+slice-aggregate-part-text-2 c = sym (c .before .before .before .before .before .before .before .before .loop .inv .set .long .counts)
 
 slice-aggregate-part-text-3 : tie.Need-slice-aggregate-part-text-3 Inv-loop μ-loop
-slice-aggregate-part-text-3 c = sym (c .before .before .before .before .before .before .before .loop .inv .set .long .held)
+slice-aggregate-part-text-3 c = sym (c .before .before .before .before .before .before .before .before .before .loop .inv .set .long .held)
 
 slice-aggregate-part-text-4 : tie.Need-slice-aggregate-part-text-4 Inv-loop μ-loop
-slice-aggregate-part-text-4 c = sym (c .before .before .before .before .before .before .before .before .loop .inv .set .long .candidates)
+slice-aggregate-part-text-4 c = sym (c .before .before .before .before .before .before .before .before .before .before .loop .inv .set .long .candidates)
 
 slice-aggregate-part-text-5 : tie.Need-slice-aggregate-part-text-5 Inv-loop μ-loop
-slice-aggregate-part-text-5 c = sym (c .before .before .before .before .before .before .before .before .before .loop .inv .set .long .makers)
+slice-aggregate-part-text-5 c = sym (c .before .before .before .before .before .before .before .before .before .before .before .loop .inv .set .long .makers)
 
 slice-aggregate-part-text-6 : tie.Need-slice-aggregate-part-text-6 Inv-loop μ-loop
-slice-aggregate-part-text-6 c = sym (c .before .before .before .before .before .before .before .before .before .before .loop .inv .set .long .values)
+slice-aggregate-part-text-6 c = sym (c .before .before .before .before .before .before .before .before .before .before .before .before .loop .inv .set .long .values)
 
 slice-aggregate-part-text-7 : tie.Need-slice-aggregate-part-text-7 Inv-loop μ-loop
-slice-aggregate-part-text-7 c = sym (c .before .before .before .before .before .before .before .before .before .before .before .loop .inv .set .long .changed)
+slice-aggregate-part-text-7 c = sym (c .before .before .before .before .before .before .before .before .before .before .before .before .before .loop .inv .set .long .changed)
 
 slice-aggregate-part-text-8 : tie.Need-slice-aggregate-part-text-8 Inv-loop μ-loop
-slice-aggregate-part-text-8 c = sym (c .before .before .before .before .before .before .before .before .before .before .before .before .loop .inv .set .long .registers)
+slice-aggregate-part-text-8 c = sym (c .before .before .before .before .before .before .before .before .before .before .before .before .before .before .loop .inv .set .long .registers)
 
 slice-aggregate-part-text-9 : tie.Need-slice-aggregate-part-text-9 Inv-loop μ-loop
-slice-aggregate-part-text-9 c = sym (c .before .before .before .before .before .before .before .before .before .before .before .before .before .loop .inv .set .long .snoops)
+slice-aggregate-part-text-9 c = sym (c .before .before .before .before .before .before .before .before .before .before .before .before .before .before .before .loop .inv .set .long .snoops)
 
 slice-aggregate-part-text-10 : tie.Need-slice-aggregate-part-text-10 Inv-loop μ-loop
-slice-aggregate-part-text-10 c = sym (c .before .before .before .before .before .before .before .before .before .before .before .before .before .before .loop .inv .set .long .logs)
+slice-aggregate-part-text-10 c = sym (c .before .before .before .before .before .before .before .before .before .before .before .before .before .before .before .before .loop .inv .set .long .logs)
 
 slice-aggregate-part-text-11 : tie.Need-slice-aggregate-part-text-11 Inv-loop μ-loop
-slice-aggregate-part-text-11 c = sym (c .before .before .before .before .before .before .before .before .before .before .before .before .before .before .before .loop .inv .set .long .history)
+slice-aggregate-part-text-11 c = sym (c .before .before .before .before .before .before .before .before .before .before .before .before .before .before .before .before .before .loop .inv .set .long .history)
 
 slice-aggregate-part-text-12 : tie.Need-slice-aggregate-part-text-12 Inv-loop μ-loop
-slice-aggregate-part-text-12 c = sym (c .before .before .before .before .before .before .before .before .before .before .before .before .before .before .before .before .loop .inv .set .long .lengths)
+slice-aggregate-part-text-12 c = sym (c .before .before .before .before .before .before .before .before .before .before .before .before .before .before .before .before .before .before .loop .inv .set .long .lengths)
 
 array-share-prefix-input : tie.Need-array-share-prefix-input Inv-loop μ-loop
-array-share-prefix-input c = c .before .before .before .before .before .before .before .before .before .before .before .before .before .read-more .ensures .inside
+array-share-prefix-input c = c .before .before .before .before .before .before .before .before .before .before .before .before .before .before .before .read-more .ensures .inside
 
 slice-aggregate-part-text-13 : tie.Need-slice-aggregate-part-text-13 Inv-loop μ-loop
-slice-aggregate-part-text-13 c = part-long (c .before .before .before .before .before .before .before .before .before .before .before .before .before)
+slice-aggregate-part-text-13 c = part-long (c .before .before .before .before .before .before .before .before .before .before .before .before .before .before .before)
 
 slice-aggregate-part-text-14 : tie.Need-slice-aggregate-part-text-14 Inv-loop μ-loop
-slice-aggregate-part-text-14 c = sym (c .before .before .before .before .before .before .before .before .before .before .before .before .before .before .before .before .before .before .loop .inv .answers)
+slice-aggregate-part-text-14 c = sym (c .before .before .before .before .before .before .before .before .before .before .before .before .before .before .before .before .before .before .before .before .loop .inv .answers)
 
 slice-aggregate-part-text-15 : tie.Need-slice-aggregate-part-text-15 Inv-loop μ-loop
-slice-aggregate-part-text-15 c = sym (c .before .before .before .before .before .before .before .before .before .before .before .before .before .before .before .before .before .before .before .loop .inv .text)
+slice-aggregate-part-text-15 c = sym (c .before .before .before .before .before .before .before .before .before .before .before .before .before .before .before .before .before .before .before .before .before .loop .inv .text)
 
 part-text-requires : tie.Need-part-text-requires Inv-loop μ-loop
 part-text-requires c κs =
-    let at = c .before .before .before .before .before .before .before .before .before .before .before .before .before .before .before .before .before .before .before .loop .inv in
-    let read = c .before .before .before .before .before .before .before .before .before .before .before .before .before .before .before in (
+    let at = c .before .before .before .before .before .before .before .before .before .before .before .before .before .before .before .before .before .before .before .before .before .loop .inv in
+    let read = c .before .before .before .before .before .before .before .before .before .before .before .before .before .before .before .before .before in (
       at .set,
       record {
         answers = omega (arith, part-long read, read-most read, at .answers);
@@ -138,8 +141,8 @@ slice-aggregate-print c = counted _ _ (c .before .before .before .before .before
 print-requires : tie.Need-print-requires Inv-loop μ-loop
 print-requires c κs = search needs
 
-returns : tie.Need-returns Inv-loop μ-loop
-returns c = search needs
+returns-2 : tie.Need-returns-2 Inv-loop μ-loop
+returns-2 c = search needs
 
 enum-known-stand : tie.Need-enum-known-stand Inv-loop μ-loop
 enum-known-stand c = search needs
@@ -154,7 +157,7 @@ put-ending-requires c κs =
     let at = fromRead read .loop in
     let place = part-place _ _ _ _ (part .part-text .ensures) (c .before .before .stand .given .1) in (
       omega (arith, text-long (c .before .before .before .before .before .before .before .before)),
-      place-fits (at .base) (length (take (read .read-more .result) (read .read-more .last .0))) (c .before .before .stand .given .0 .0) (omega (arith, at .inv .near)) (omega (arith, part-long (part .before .before .before .before .before .before .before .before .before .before .before .before .before .before .before .before), read-most (part .before .before .before .before .before .before .before .before .before .before .before .before .before .before .before .before))) place,
+      place-fits (at .base) (length (take (read .read-more .result .n) (read .read-more .last .0))) (c .before .before .stand .given .0 .0) (omega (arith, at .inv .near)) (omega (arith, part-long (part .before .before .before .before .before .before .before .before .before .before .before .before .before .before .before .before .before .before), read-most (part .before .before .before .before .before .before .before .before .before .before .before .before .before .before .before .before .before .before))) place,
     )
 
 array-share-prefix-text-2 : tie.Need-array-share-prefix-text-2 Inv-loop μ-loop
@@ -166,35 +169,35 @@ slice-aggregate-print-2 c = counted _ _ (c .before .before .put-ending .ensures 
 print-requires-2 : tie.Need-print-requires-2 Inv-loop μ-loop
 print-requires-2 c κs = search needs
 
-returns-2 : tie.Need-returns-2 Inv-loop μ-loop
-returns-2 c = search needs
+returns-3 : tie.Need-returns-3 Inv-loop μ-loop
+returns-3 c = search needs
 
 enum-told : tie.Need-enum-told Inv-loop μ-loop
 enum-told c = search needs
 
 slice-aggregate-keep-rest : tie.Need-slice-aggregate-keep-rest Inv-loop μ-loop
-slice-aggregate-keep-rest c = sym (input-long (c .before .before .before .before .before .before .before .before .before .before .before .before .before .before .before .before .before .before .before .before .before .before .before .before .before .before .before .before .before .before .before .before .before .before .before .before .before))
+slice-aggregate-keep-rest c = sym (input-long (c .before .before .before .before .before .before .before .before .before .before .before .before .before .before .before .before .before .before .before .before .before .before .before .before .before .before .before .before .before .before .before .before .before .before .before .before .before .before .before))
 
 keep-rest-requires : tie.Need-keep-rest-requires Inv-loop μ-loop
-keep-rest-requires c κs = (waits-there (c .before) .0, c .before .before .before .before .before .before .before .before .before .before .before .before .before .before .before .before .before .before .before .before .before .before .before .before .before .before .before .before .before .before .before .before .before .before .before .before .before .before .read-more .ensures .inside)
+keep-rest-requires c κs = (waits-there (c .before) .0, c .before .before .before .before .before .before .before .before .before .before .before .before .before .before .before .before .before .before .before .before .before .before .before .before .before .before .before .before .before .before .before .before .before .before .before .before .before .before .before .before .read-more .ensures .inside)
 
 add-base : tie.Need-add-base Inv-loop μ-loop
 add-base c =
-    let read = c .before .before .before .before .before .before .before .before .before .before .before .before .before .before .before .before .before .before .before .before .before .before .before .before .before .before .before .before .before .before .before .before .before .before .before .before .before .before .before in
+    let read = c .before .before .before .before .before .before .before .before .before .before .before .before .before .before .before .before .before .before .before .before .before .before .before .before .before .before .before .before .before .before .before .before .before .before .before .before .before .before .before .before .before in
     omega (arith, waits-there (c .before .before .before) .0, read-most read, fromRead (read .before) .loop .inv .near)
 
 sub-left : tie.Need-sub-left Inv-loop μ-loop
 sub-left c = waits-there (c .before .before .before) .0
 
 loop-less : tie.Need-loop-less Inv-loop μ-loop
-loop-less c = let turn = c .before .before .before .before .before .before .before .before .before .before .before .before .before .before .before .before .before .before .before .before .before .before .before .before .before .before .before .before .before .before .before .before .before .before .before .before .before .before .before .before .before .before .before .loop-test .taken in omega arith
+loop-less c = let turn = c .before .before .before .before .before .before .before .before .before .before .before .before .before .before .before .before .before .before .before .before .before .before .before .before .before .before .before .before .before .before .before .before .before .before .before .before .before .before .before .before .before .before .before .before .before .loop-test .taken in omega arith
 
 loop-again : tie.Need-loop-again Inv-loop μ-loop
 loop-again c =
     let part = c .before .before .before .before .before .before .before .before .before .before .before .before .before .before .before .before .before .before .before .before .before .before .before .before in
-    let read = part .before .before .before .before .before .before .before .before .before .before .before .before .before .before .before .before in
+    let read = part .before .before .before .before .before .before .before .before .before .before .before .before .before .before .before .before .before .before in
     let at = fromRead (read .before) .loop in
-    let turn = c .before .before .before .before .before .before .before .before .before .before .before .before .before .before .before .before .before .before .before .before .before .before .before .before .before .before .before .before .before .before .before .before .before .before .before .before .before .before .before .before .before .before .before .loop-test .taken in
+    let turn = c .before .before .before .before .before .before .before .before .before .before .before .before .before .before .before .before .before .before .before .before .before .before .before .before .before .before .before .before .before .before .before .before .before .before .before .before .before .before .before .before .before .before .before .before .before .loop-test .taken in
     let waiting = waits-there (c .before .before .before .before) in
     record {
       set = part .part-text .ensures .set;
@@ -205,8 +208,11 @@ loop-again c =
       near = omega (arith, waiting .0, read-most read, at .inv .near);
     }
 
-returns-3 : tie.Need-returns-3 Inv-loop μ-loop
-returns-3 c = search needs
+say-unended-requires : tie.Need-say-unended-requires Inv-loop μ-loop
+say-unended-requires c κs = search needs
+
+returns-4 : tie.Need-returns-4 Inv-loop μ-loop
+returns-4 c = search needs
 
 pub main-spec : {M : Type 1} → statement M
 main-spec =
@@ -218,6 +224,7 @@ main-spec =
     sub-turns
     slice-aggregate-read-more
     read-more-requires
+    returns
     slice-aggregate-part-text
     slice-aggregate-part-text-2
     slice-aggregate-part-text-3
@@ -238,14 +245,14 @@ main-spec =
     array-share-prefix-text
     slice-aggregate-print
     print-requires
-    returns
+    returns-2
     enum-known-stand
     slice-aggregate-put-ending
     put-ending-requires
     array-share-prefix-text-2
     slice-aggregate-print-2
     print-requires-2
-    returns-2
+    returns-3
     enum-told
     slice-aggregate-keep-rest
     keep-rest-requires
@@ -253,4 +260,5 @@ main-spec =
     sub-left
     loop-less
     loop-again
-    returns-3)
+    say-unended-requires
+    returns-4)

@@ -8,19 +8,25 @@ use Rattle.replay.proofs.read_more.Tie as tie
 use Rattle.replay.proofs.read_more.Reads as reads
 use Rattle.replay.proofs.read_more.Lts as lts
 use Rattle.io.proofs.count.Reads as count-reads
-use Rattle.libc.proofs.read.Reads as read-reads
+use Rattle.replay.proofs.read_again.Reads as read-again-reads
 
-sub-read : tie.Need-sub-read
-sub-read c = search needs
+sub-read-again : tie.Need-sub-read-again
+sub-read-again c = search needs
 
-part-read-start : tie.Need-part-read-start
-part-read-start c = search needs
+part-read-again-start : tie.Need-part-read-again-start
+part-read-again-start c = search needs
 
-part-read-end : tie.Need-part-read-end
-part-read-end c = search needs
+part-read-again-end : tie.Need-part-read-again-end
+part-read-again-end c = search needs
 
-read-requires : tie.Need-read-requires
-read-requires c κs = search needs
+read-again-requires : tie.Need-read-again-requires
+read-again-requires c κs = search needs
+
+slice-aggregate-fail : tie.Need-slice-aggregate-fail
+slice-aggregate-fail c = search needs
+
+fail-requires : tie.Need-fail-requires
+fail-requires c κs = search needs
 
 sub-count : tie.Need-sub-count
 sub-count c = search needs
@@ -34,33 +40,35 @@ part-count-end c = search needs
 count-requires : tie.Need-count-requires
 count-requires c κs = search needs
 
-add-result : tie.Need-add-result
-add-result c = search needs
+add-t17 : tie.Need-add-t17
+add-t17 c = search needs
 
 same-length : tie.Need-same-length
 same-length c = search needs
 
 returns : tie.Need-returns
 returns c =
-    let start = c .before .before .before .before .before .before .before .before in
+    let start = c .before .before .before .before .before .before .before .before .before in
     record {
       least = search needs;
       inside = search needs;
-      kept = take-put (start .args .left) (length (start .args .input .now) - start .args .left) (start .args .input .now) (c .before .before .before .before .before .read .last .1 .0) (start .pre);
+      kept = take-put (start .args .left) (length (start .args .input .now) - start .args .left) (start .args .input .now) (c .before .before .before .before .before .before .read-again .last .0) (start .pre);
     }
 
 pub read-more-spec : {M : Type 1} → statement M
 read-more-spec =
     tie.close
     (tie.spec
-    sub-read
-    part-read-start
-    part-read-end
-    read-requires
+    sub-read-again
+    part-read-again-start
+    part-read-again-end
+    read-again-requires
+    slice-aggregate-fail
+    fail-requires
     sub-count
     part-count-start
     part-count-end
     count-requires
-    add-result
+    add-t17
     same-length
     returns)
