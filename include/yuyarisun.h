@@ -91,15 +91,15 @@ typedef struct yuyarisun_sizes {
 #define YUYARISUN_MAKERS_LENGTH(n, k, w, r) ((size_t)(n))
 #define YUYARISUN_VALUES_LENGTH(n, k, w, r) YUYARISUN_ALL_LINKS(n, k)
 #define YUYARISUN_CHANGED_LENGTH(n, k, w, r) YUYARISUN_ALL_LINKS(n, k)
-#define YUYARISUN_REGISTERS_LENGTH(n, k, w, r) ((size_t)(w) * (size_t)(r))
+#define YUYARISUN_REGISTERS_LENGTH(n, k, w, r) ((size_t)(w) * (size_t)(r) + 1)
 #define YUYARISUN_SNOOPS_LENGTH(n, k, w, r) ((size_t)(w))
 #define YUYARISUN_LOGS_LENGTH(n, k, w, r) ((size_t)(w) * 2 * YUYARISUN_ALL_LINKS(n, k))
 #define YUYARISUN_HISTORY_LENGTH(n, k, w, r) (2 * YUYARISUN_ALL_LINKS(n, k))
 #define YUYARISUN_LENGTHS_LENGTH(n, k, w, r) ((size_t)(w) + 1)
 
-/* All twelve together: 169,105 numbers at the largest sizes. */
+/* All twelve together: 169,106 numbers at the largest sizes. */
 #define YUYARISUN_TOTAL_LENGTH(n, k, w, r)                                                                                                                     \
-    (5 * (size_t)(n) + 4 * YUYARISUN_ALL_LINKS(n, k) + (size_t)(w) * (2 * YUYARISUN_ALL_LINKS(n, k) + (size_t)(r) + 2) + 1)
+    (5 * (size_t)(n) + 4 * YUYARISUN_ALL_LINKS(n, k) + (size_t)(w) * (2 * YUYARISUN_ALL_LINKS(n, k) + (size_t)(r) + 2) + 2)
 
 static inline bool yuyarisun_sizes_in_range(yuyarisun_sizes s)
 {
@@ -131,7 +131,7 @@ typedef struct yuyarisun_pool {
     yuyarisun_table makers;     /* of record a at a - 1: the worker that made it + 1, or 0 */
     yuyarisun_table values;     /* of link l at l: the record that it leads to, or 0; link f of record a is (a - 1) x k + f */
     yuyarisun_table changed;    /* of link l at l: its changed mark, 0 or 1 */
-    yuyarisun_table registers;  /* register r of worker w at w x (registers per worker) + r: a record, or 0 */
+    yuyarisun_table registers;  /* register r of worker w at w x (registers per worker) + r: a record, or 0; behind all of them the last made number, or 0 */
     yuyarisun_table snoops;     /* of worker w at w: its snoop flag, 0 or 1 */
     yuyarisun_table logs;       /* entry i of worker w at w x 2S + 2i: a link, then the value that was overwritten first */
     yuyarisun_table history;    /* entry i at 2i, in the same form */
@@ -200,7 +200,8 @@ static inline uint16_t yuyarisun_lay(yuyarisun_pool *pool, yuyarisun_sizes sizes
         const uint16_t *snoops, size_t snoops_length, const uint16_t *logs, size_t logs_length, const uint16_t *history, size_t history_length,                \
         const uint16_t *lengths, size_t lengths_length, uint16_t phase, uint16_t position, uint16_t closed
 
-/* make: the lowest free record becomes used, and the register `into` holds it. The value is its number. Answers 0, 1, 2, 3 or 5. */
+/* make: the first free record above the last one made, else the lowest, becomes used, and the register `into` holds it. The value is its number. Answers 0, 1,
+ * 2, 3 or 5. */
 uint16_t yuyarisun_make(YUYARISUN_LENT, uint16_t *value, uint8_t worker, uint8_t into);
 
 /* move: the register `into` takes what the register `from` holds, which is the value. Answers 0, 1, 2 or 3. */

@@ -36,7 +36,7 @@ static int laid_out(void)
     yuyarisun_pool pool;
     yuyarisun_sizes sizes = {N, K, W, R};
     size_t total = sizeof block / sizeof *block;
-    HOLD(sizeof largest / sizeof *largest == 169105);
+    HOLD(sizeof largest / sizeof *largest == 169106);
     HOLD(yuyarisun_lay(&pool, sizes, block, total - 1) == YUYARISUN_WRONG_SIZE);
     HOLD(yuyarisun_lay(&pool, sizes, block, total) == YUYARISUN_DONE);
     HOLD(pool.used.numbers == block && pool.lengths.numbers + pool.lengths.length == block + total);
@@ -76,7 +76,7 @@ static int named(void)
     HOLD(done(yuyarisun_pool_make(&pool, 1, 0), 1) && done(yuyarisun_pool_make(&pool, 1, 1), 2));
     HOLD(pool.used.numbers[0] == 1 && pool.used.numbers[1] == 1 && pool.used.numbers[2] == 0);
     HOLD(pool.makers.numbers[0] == 2 && pool.makers.numbers[1] == 2);
-    HOLD(pool.registers.numbers[1 * R + 0] == 1 && pool.registers.numbers[1 * R + 1] == 2);
+    HOLD(pool.registers.numbers[1 * R + 0] == 1 && pool.registers.numbers[1 * R + 1] == 2 && pool.registers.numbers[W * R] == 2);
     HOLD(done(yuyarisun_pool_store(&pool, 1, 0, 1, 1), 0));
     HOLD(pool.values.numbers[1] == 2 && pool.changed.numbers[1] == 1 && pool.lengths.numbers[1] == 1);
     HOLD(pool.logs.numbers[log] == 1 && pool.logs.numbers[log + 1] == 0);
@@ -161,7 +161,7 @@ static int many(void)
 /* The document's whole case, and what refuses it. */
 static int traced(void)
 {
-    static const uint16_t answered[18] = {0, 1, 0, 0, 0, 0, 0, 0, 0, 0, 0, 0, 0, 1, 0, 0, 0, 1};
+    static const uint16_t answered[18] = {0, 1, 0, 0, 0, 0, 0, 0, 0, 0, 0, 0, 0, 1, 0, 0, 0, 2};
     uint8_t trace[11 + 9 * YUYARISUN_EVENT_MOST_BYTES + 7] = {0x01, 0, 8, 0, 2, 0, 1, 0, 1, 0, 1};
     const uint8_t end[7] = {0x7f, 0, 4, 0, 0, 0, 9};
     uint8_t *at = yuyarisun_put_drop(yuyarisun_put_make(trace + 11, 1, 0, 0), 2, 0, 0);

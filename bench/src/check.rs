@@ -128,6 +128,7 @@ pub fn sound(pool: &Lent) -> bool {
     if marks > 1 || largest(&tables.makers) > sizes.w {
         return false;
     }
+    // The last made number stands behind the registers.
     if largest(&tables.registers) > sizes.n || largest(&tables.values) > sizes.n {
         return false;
     }

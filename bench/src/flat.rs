@@ -23,6 +23,7 @@ pub struct Pool<const N: usize, const K: usize, const W: usize, const R: usize> 
     changed: [[bool; K]; N],
     olds: [[u16; K]; N],
     registers: [[u16; R]; W],
+    last_made: usize,
     snoops: [bool; W],
     logs: [Vec<Entry>; W],
     history: Vec<Entry>,
@@ -57,6 +58,7 @@ impl<const N: usize, const K: usize, const W: usize, const R: usize> Pool<N, K, 
             changed: [[false; K]; N],
             olds: [[0; K]; N],
             registers: [[0; R]; W],
+            last_made: 0,
             snoops: [false; W],
             logs: array::from_fn(|_| Vec::with_capacity(n * k)),
             history: Vec::with_capacity(n * k),
@@ -96,15 +98,24 @@ impl<const N: usize, const K: usize, const W: usize, const R: usize> Pool<N, K, 
         }
     }
 
+    /// The first place between two at which a record is free.
+    #[inline]
+    fn first_free(&self, from: usize, to: usize) -> Option<usize> {
+        self.used[from..to].iter().position(|used| !used).map(|further| from + further)
+    }
+
     #[inline]
     pub fn make(&mut self, w: usize, r: usize) -> Answer {
         if w >= self.w || r >= self.r {
             return (NO_SUCH, 0);
         }
-        let Some(place) = self.used[..self.n].iter().position(|used| !used) else {
+        let Some(place) =
+            self.first_free(self.last_made, self.n).or_else(|| self.first_free(0, self.last_made))
+        else {
             return (NONE_FREE, 0);
         };
         self.used[place] = true;
+        self.last_made = place + 1;
         self.makers[place] = w as u8 + 1;
         self.registers[w][r] = place as u16 + 1;
         (DONE, place as u16 + 1)

@@ -111,9 +111,13 @@ pub struct Situation {
 
 pub fn all(sizes: Sizes) -> Vec<Situation> {
     let (s, w, r, f) = (sizes.links(), sizes.w as u8 - 1, sizes.r as u8 - 1, sizes.k as u8 - 1);
-    let mut one_free = quiet(sizes);
+    let one_free = |last_made: u16, free: u16| {
+        let mut pool = quiet(sizes);
+        pool.tables.registers[(sizes.w * sizes.r) as usize] = last_made;
+        pool.tables.used[free as usize - 1] = 0;
+        pool
+    };
     let last = sizes.n as usize - 1;
-    one_free.tables.used[last] = 0;
     let mut full = quiet(sizes);
     for (i, held) in full.tables.registers.iter_mut().enumerate() {
         *held = (i % sizes.n as usize) as u16 + 1;
@@ -128,7 +132,12 @@ pub fn all(sizes: Sizes) -> Vec<Situation> {
     let cleared = worked(sizes, 3, 0, Lists { logs: Vec::new(), history: (0..s).collect() });
     let situation = |name, pool: &Lent, event| Situation { name, pool: pool.clone(), event };
     vec![
-        situation("make, the last record alone free", &one_free, Event::Make { w, r }),
+        situation("make, the last record alone free", &one_free(0, sizes.n), Event::Make { w, r }),
+        situation(
+            "make, the last made alone free",
+            &one_free(sizes.n / 2, sizes.n / 2),
+            Event::Make { w, r },
+        ),
         situation("move", &full, Event::Move { w, r, q: 0 }),
         situation("drop", &full, Event::Drop { w, r }),
         situation("load", &full, Event::Load { w, r, q: 0, f }),

@@ -36,7 +36,8 @@ impl fmt::Display for Record {
 #[derive(Clone, Copy, Debug, PartialEq, Eq, Hash)]
 #[allow(missing_docs)] // The letters are said once, above.
 pub enum Event {
-    /// The lowest free record becomes used, and register `r` holds it. The value is that record.
+    /// The first free record above the last one made, else the lowest, becomes used, and register `r`
+    /// holds it. The value is that record.
     Make { w: u8, r: u8 },
     /// Register `r` takes what `q` holds, which is the value.
     Move { w: u8, r: u8, q: u8 },

@@ -99,7 +99,8 @@ impl Pool {
         events.into_iter().map(|event| self.event(event)).collect()
     }
 
-    /// The lowest free record becomes used, and register `r` holds it.
+    /// The first free record above the last one made, else the lowest, becomes used, and register `r`
+    /// holds it.
     ///
     /// Refuses by [`Refusal::NoSuch`], and by [`Refusal::NoneFree`] where no record is free.
     ///
@@ -228,7 +229,7 @@ impl Pool {
     ///
     /// let mut pool = Pool::new(Sizes { n: 8, k: 1, w: 2, r: 1 })?;
     /// pool.make(1, 0)?;
-    /// assert_eq!(pool.tables().registers, [0, 1]);
+    /// assert_eq!(pool.tables().registers, [0, 1, 1]); // worker 0, worker 1, the last made number
     /// assert_eq!(pool.tables().makers[0], 2); // worker 1
     /// # Ok::<(), yuyarisun::Refusal>(())
     /// ```

@@ -65,7 +65,7 @@ pub struct Tables {
     pub values: Vec<u16>,
     /// S: of link l at l, its changed mark.
     pub changed: Vec<u16>,
-    /// W x R: register r of worker w at w x R + r.
+    /// W x R + 1: register r of worker w at w x R + r, and at W x R the last made number.
     pub registers: Vec<u16>,
     /// W: each worker's snoop flag.
     pub snoops: Vec<u16>,
@@ -92,7 +92,7 @@ impl Tables {
             makers: vec![0; n],
             values: vec![0; s],
             changed: vec![0; s],
-            registers: vec![0; w * r],
+            registers: vec![0; w * r + 1],
             snoops: vec![0; w],
             logs: vec![0; w * 2 * s],
             history: vec![0; 2 * s],
@@ -108,7 +108,7 @@ impl Tables {
         by_record.into_iter().all(|table| table.len() == n)
             && self.values.len() == s
             && self.changed.len() == s
-            && self.registers.len() == w * r
+            && self.registers.len() == w * r + 1
             && self.snoops.len() == w
             && self.logs.len() == w * 2 * s
             && self.history.len() == 2 * s

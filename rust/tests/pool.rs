@@ -31,7 +31,7 @@ fn the_whole_case() {
     assert_eq!(pool.drop_register(0, 0), Ok(()));
     let steps: Vec<u16> = (0..6).map(|_| pool.collect().map_or(0, Record::number)).collect();
     assert_eq!(steps, [0, 0, 0, 0, 1, 0]);
-    assert_eq!(pool.make(0, 0).map(Record::number), Ok(1));
+    assert_eq!(pool.make(0, 0).map(Record::number), Ok(2));
     assert_eq!((pool.free_records(), pool.collector().closed), (1, 1));
 }
 
@@ -43,6 +43,39 @@ fn every_record_is_made_and_then_none_is_free() {
     }
     assert_eq!(pool.make(7, 15), Err(Refusal::NoneFree));
     assert_eq!(pool.free_records(), 0);
+}
+
+/// Each record made is lost and freed before the next is made; then two stay, and one comes straight
+/// back.
+#[test]
+fn makes_go_round() -> Result<(), Refusal> {
+    let mut pool = pool(3, 1, 1, 3);
+    let mut made = Vec::new();
+    for _ in 0..4 {
+        made.push(pool.make(0, 0)?);
+        pool.drop_register(0, 0)?;
+        cycle(&mut pool);
+    }
+    assert_eq!(numbers(made), [1, 2, 3, 1]);
+    assert_eq!(pool.tables().registers, [0, 0, 0, 1]);
+    assert_eq!((pool.make(0, 0)?.number(), pool.make(0, 1)?.number(), pool.make(0, 2)?.number()), (2, 3, 1));
+    assert_eq!(pool.make(0, 2), Err(Refusal::NoneFree));
+    pool.drop_register(0, 2)?;
+    assert_eq!(cycle(&mut pool), [1]);
+    assert_eq!(pool.make(0, 2)?.number(), 1);
+    Ok(())
+}
+
+#[test]
+fn the_last_made_number_is_a_records() -> Result<(), Refusal> {
+    let sizes = Sizes { n: 3, k: 1, w: 1, r: 1 };
+    let mut tables = Tables::zeros(sizes);
+    tables.registers[1] = 3;
+    let mut pool = Pool::from_tables(sizes, tables.clone(), Collector::default())?;
+    assert_eq!(pool.make(0, 0)?.number(), 1);
+    tables.registers[1] = 4;
+    assert_eq!(Pool::from_tables(sizes, tables, Collector::default()), Err(Refusal::NotSound));
+    Ok(())
 }
 
 #[test]

@@ -57,11 +57,11 @@ fn fields_are_the_documents() {
 fn the_whole_case() {
     let bytes = whole_case();
     let replayed = replay(&bytes);
-    let printed = "1 0 1\n2 0 0\n3 0 0\n4 0 0\n5 0 0\n6 0 0\n7 0 1\n8 0 0\n9 0 1\nend 1 1\n";
+    let printed = "1 0 1\n2 0 0\n3 0 0\n4 0 0\n5 0 0\n6 0 0\n7 0 1\n8 0 0\n9 0 2\nend 1 1\n";
     assert_eq!(replayed.to_string(), printed);
     let mut pool = replayed.ending.unwrap();
     assert_eq!(pool.sizes(), SIZES);
-    assert_eq!(pool.make(0, 0).map(Record::number), Ok(2));
+    assert_eq!(pool.make(0, 0).map(Record::number), Ok(1));
 
     let mut lent = lent(SIZES);
     lent.tables.used.fill(7);

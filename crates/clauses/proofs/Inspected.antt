@@ -72,6 +72,7 @@ module _ (s : Sizes) (t : Tables) (c : Collector) (sizes : inRange s ≡ true) (
             (record {
               shaped = pool-shaped c exact;
               registers = numbers .registers;
+              last = numbers .last;
               values = ls .range .values;
               logs = ls .range .logs;
               history = ls .range .history;
@@ -104,6 +105,7 @@ module _ (s : Sizes) (t : Tables) (c : Collector) (sizes : inRange s ≡ true) (
           candidates = x .marked .candidates;
           makers = x .sound .makers;
           registers = x .sound .registers;
+          last = x .sound .last;
           snoops = x .marked .snoops;
         }
 

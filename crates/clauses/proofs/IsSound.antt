@@ -87,6 +87,7 @@ module _ (s : Sizes) (p : Pool) (shaped : Shaped s p) where
       and unless-tells (emptyIn (p .collector .phase)) (empty-tells (p .history))
       and unless-tells (entriesIn (p .collector .phase)) (less-tells 0 (length (p .history)))
       and below-tells (s .w) (λ w _. below-tells (s .r) (λ r _. most-tells (registerAt p w r .0) (s .n)))
+      and most-tells (p .last .0) (s .n)
       and below-tells (links s) (λ l _. most-tells (valueAt p (linkNumberOf l) .0) (s .n))
       and every-tells (in-range-tells s) (allLogs p)
       and every-tells (in-range-tells s) (p .history)
@@ -96,11 +97,12 @@ module _ (s : Sizes) (p : Pool) (shaped : Shaped s p) where
       and below-tells (links s) (λ l _. most-tells (times (linkNumberOf l) (p .history)) 1)
       and below-tells (links s) (λ l _. equal-tells (times (linkNumberOf l) (outstanding p)) (bit (changedAt p (linkNumberOf l))))
       and below-tells (s .n) (λ a _. equal-tells (countAt p (recordNumber (suc a))) (tally (countsFor p) (links s) (recordNumber (suc a))))) (
-        λ (((((((((((((phase, position), empty), some), registers), values), logs), history), makers), log-lengths), history-length), once), marks), counts).
+        λ ((((((((((((((phase, position), empty), some), registers), last), values), logs), history), makers), log-lengths), history-length), once), marks), counts).
             sound
             (record {
               shaped = shaped;
               registers = registers-all registers;
+              last = last;
               values = values-all values;
               logs = logs;
               history = history;
@@ -119,6 +121,7 @@ module _ (s : Sizes) (p : Pool) (shaped : Shaped s p) where
             also h .history-empty
             also h .history-entries
             also (λ w _ r _. h .registers w r)
+            also h .last
             also (λ l _. h .values (linkNumberOf l))
             also h .logs
             also h .history
@@ -154,7 +157,7 @@ module _ {s : Sizes} {t : Tables} (c : Collector) (exact : Exact s t) where
                   ap length (List·getD-map recordNumbers rows w [])
                   ∙ length-map (getD rows w []) recordNumber
                   ∙ Each-at (λ row. length row ≡ s .r) rows w [] (omega (arith, length-cut (s .w) (s .r) (t .registers)))
-                  (cut-sized (s .w) (s .r) (t .registers) (exact .registers));
+                  (cut-sized (s .w) (s .r) (t .registers) (omega (arith, exact .registers)));
               snoop = length-map (t .snoops) isOn ∙ exact .snoops;
               log = length-logs s (t .logs) (t .lengths) (exact .lengths);
             };

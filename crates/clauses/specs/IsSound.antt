@@ -59,6 +59,8 @@ isSoundPool s p =
     && (not (entriesIn (p .collector .phase)) || ltb 0 (length (p .history)))
     -- "record numbers in registers, links and entries 0..N; link numbers in entries below S; makers 0..W; list lengths at most S"
     && below (s .w) (λ w. below (s .r) (λ r. leb (registerAt p w r .0) (s .n)))
+    -- "The pool remembers the last made number (.. 0..N in a sound pool)" (document 02, request 1)
+    && leb (p .last .0) (s .n)
     && below (links s) (λ l. leb (valueAt p (linkNumberOf l) .0) (s .n))
     && every (isInRange s) (allLogs p)
     && every (isInRange s) (p .history)

@@ -43,7 +43,7 @@ module _ (s : Sizes) (t : Tables) where
       ∷ eqb (length (t .makers)) (s .n)
       ∷ eqb (length (t .values)) (links s)
       ∷ eqb (length (t .changed)) (links s)
-      ∷ eqb (length (t .registers)) (s .w * s .r)
+      ∷ eqb (length (t .registers)) (s .w * s .r + 1)
       ∷ eqb (length (t .snoops)) (s .w)
       ∷ eqb (length (t .logs)) (s .w * room s)
       ∷ eqb (length (t .history)) (room s)

@@ -40,7 +40,7 @@ zeroTables s =
       makers = replicate (s .n) 0;
       values = replicate (links s) 0;
       changed = replicate (links s) 0;
-      registers = replicate (s .w * s .r) 0;
+      registers = replicate (s .w * s .r + 1) 0;
       snoops = replicate (s .w) 0;
       logs = replicate (s .w * room s) 0;
       history = replicate (room s) 0;
@@ -60,8 +60,10 @@ fresh-zero s =
       values = map-replicate (λ a. a .0) (links s) none j;
       changed = map-replicate bit (links s) false j;
       registers =
-          (ap flatten (map-replicate numbers (s .w) (replicate (s .r) none) ∙ ap (replicate (s .w)) (map-replicate (λ a. a .0) (s .r) none))
-          ∙ joined-zeros (s .w) (s .r)) j;
+          (ap (λ (rows : List (List ℕ)). flatten rows ++ (0 ∷ []))
+          (map-replicate numbers (s .w) (replicate (s .r) none) ∙ ap (replicate (s .w)) (map-replicate (λ a. a .0) (s .r) none))
+          ∙ ap (λ (xs : List ℕ). xs ++ (0 ∷ [])) (joined-zeros (s .w) (s .r))
+          ∙ replicate-append-replicate (s .w * s .r) 1 0) j;
       snoops = map-replicate bit (s .w) false j;
       logs =
           (ap flatten (map-replicate (laid (links s)) (s .w) [] ∙ ap (replicate (s .w)) (laid-empty (links s))) ∙ joined-zeros (s .w) (room s)) j;

@@ -25,7 +25,7 @@ isExact s t =
     && eqb (length (t .makers)) (s .n)
     && eqb (length (t .values)) (links s)
     && eqb (length (t .changed)) (links s)
-    && eqb (length (t .registers)) (s .w * s .r)
+    && eqb (length (t .registers)) (s .w * s .r + 1)
     && eqb (length (t .snoops)) (s .w)
     && eqb (length (t .logs)) (s .w * room s)
     && eqb (length (t .history)) (room s)

@@ -46,7 +46,7 @@ fn is_exact(
         & (makers.len() == records)
         & (values.len() == links)
         & (changed.len() == links)
-        & (registers.len() == places)
+        & (registers.len() == places + 1)
         & (snoops.len() == workers)
         & (logs.len() == workers * (links * 2))
         & (history.len() == links * 2)

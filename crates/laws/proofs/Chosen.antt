@@ -1,19 +1,25 @@
 -- What a make picks.
 --     chosen-low       it is a record number
 --     chosen-free      where it is not none, it is a free record
---     chosen-lowest    "the lowest free record": every record below it is used
+--     chosen-first     "the first free record above the last one made": where it is above, every record between is used
+--     chosen-lowest    "else the lowest": where it is not above, every record above the last made and every one below it is used
 --     chosen-none      it is none only where no record is free
+--     chosen-cases     it is the one or the other
 -- Assumes nothing.
-use Prim.Native.Nat.{ℕ, zero, suc, _+_, _≤_, _<_}
-use mathlib.Core.Path.{_≡_, refl, ap, _∙_}
-use mathlib.Core.Bool.{Bool, true, false}
+use Prim.Native.Nat.{ℕ, zero, suc, _+_, _-_, _≤_, _<_, zero-le}
+use mathlib.Core.Path.{_≡_, refl, sym, ap, _∙_}
+use mathlib.Core.Logic.{_⊎_, ⊎-elim}
+use mathlib.Core.Bool.{Bool, true, false, cond}
 use mathlib.Core.List.{List, [], _∷_}
 use native.Mathlib.Omega.{arith}
 use native.Mathlib.Nat.{le-of-suc-le-suc, not-suc-le-zero}
-use lib.ListN.{length, getD}
+use borrow.Author.Tests.{eqb-true, eqb-false}
+use lib.Dec.{eqb}
+use lib.ListN.{length, getD, drop, length-drop}
+use lib.Seq.{getD-drop}
 use Rattle.rules.specs.declared.RecordNumber.{RecordNumber}
 use Rattle.rules.specs.Pool.{Pool, ofRecord, usedAt}
-use Rattle.rules.specs.Worker.{firstFree, chosen}
+use Rattle.rules.specs.Worker.{firstFree, firstAbove, lowest, chosen}
 
 -- where the search from a + 1 on finds a record, it is at a place of the marks that is off, and all before it are on
 pub record Found (a : ℕ) (used : List Bool) : Type 0 where
@@ -51,38 +57,87 @@ none-found a (false ∷ used) h j k = absurd (omega arith)
 none-found a (true ∷ used) h zero k = refl
 none-found a (true ∷ used) h (suc j) k = none-found (suc a) used h j (le-of-suc-le-suc k)
 
-number-low : (a : ℕ) (used : List Bool) → firstFree (suc a) used .0 ≤ a + length used
-unfolding firstFree
-number-low a [] = omega arith
-number-low a (false ∷ used) = omega arith
-number-low a (true ∷ used) = omega (arith, number-low (suc a) used)
+-- ---- the search from the marks of the records above m on
+
+module _ (used : List Bool) (m : ℕ) where
+  abbrev from : RecordNumber
+  from = firstFree (suc m) (drop m used)
+
+  from-low : from .0 ≤ length used
+  from-low = by-number (from .0) refl
+    where
+      by-number : (n : ℕ) → from .0 ≡ n → n ≤ length used
+      by-number zero e = zero-le
+      by-number (suc n) e =
+          let f : Found m (drop m used) = found m (drop m used) (omega arith) in omega (arith, f .number, f .inside, length-drop m used)
+
+  -- the mark of record m + 1 + i
+  mark-there : (i : ℕ) → getD (drop m used) i false ≡ ofRecord used (suc (m + i)) false
+  mark-there i = getD-drop m used i false
+
+  from-free : 1 ≤ from .0 → (m < from .0) × (ofRecord used (from .0) false ≡ false)
+  from-free h =
+      let f : Found m (drop m used) = found m (drop m used) h in (
+        omega (arith, f .number),
+        ap (λ (i : ℕ). ofRecord used i false) (f .number) ∙ sym (mark-there (f .place)) ∙ f .free,
+      )
+
+  from-first : (i : ℕ) → m < i → i < from .0 → ofRecord used i false ≡ true
+  from-first i h k =
+      let f : Found m (drop m used) = found m (drop m used) (omega arith) in
+      let at : i ≡ suc (m + (i - suc m)) = omega arith in
+      ap (λ (j : ℕ). ofRecord used j false) at
+      ∙ sym (mark-there (i - suc m))
+      ∙ f .lowest (i - suc m) (omega (arith, f .number))
+
+  from-none : from .0 ≡ 0 → (i : ℕ) → m < i → i ≤ length used → ofRecord used i false ≡ true
+  from-none z i h k =
+      let at : i ≡ suc (m + (i - suc m)) = omega arith in
+      ap (λ (j : ℕ). ofRecord used j false) at
+      ∙ sym (mark-there (i - suc m))
+      ∙ none-found m (drop m used) z (i - suc m) (omega (arith, length-drop m used))
+
+-- ---- what a make picks
 
 module _ (p : Pool) where
-  pub chosen-low : chosen p .0 ≤ length (p .records .used)
+  abbrev used : List Bool
+  used = p .records .used
+
+  pub chosen-cases : (P : RecordNumber → Type 0) → (firstAbove p .0 ≡ 0 → P (lowest p)) → (1 ≤ firstAbove p .0 → P (firstAbove p)) → P (chosen p)
   unfolding chosen
-  chosen-low = omega (arith, number-low 0 (p .records .used))
+  chosen-cases P round above = by-test (eqb (firstAbove p .0) 0) refl
+    where
+      by-test : (b : Bool) → eqb (firstAbove p .0) 0 ≡ b → P (cond b (lowest p) (firstAbove p))
+      by-test true e = round (eqb-true (firstAbove p .0) 0 e)
+      by-test false e = above (let some = eqb-false (firstAbove p .0) 0 e in omega arith)
+
+  pub chosen-low : chosen p .0 ≤ length used
+  unfolding firstAbove lowest
+  chosen-low = chosen-cases (λ a. a .0 ≤ length used) (λ z. from-low used 0) (λ h. from-low used (p .last .0))
 
   pub chosen-free : 1 ≤ chosen p .0 → usedAt p (chosen p) ≡ false
-  unfolding chosen
-  chosen-free h =
-      let f : Found 0 (p .records .used) = found 0 (p .records .used) h in
-      let at : firstFree 1 (p .records .used) .0 ≡ suc (f .place) = omega (arith, f .number) in
-      ap (λ (i : ℕ). ofRecord (p .records .used) i false) at ∙ f .free
+  unfolding firstAbove lowest
+  chosen-free = chosen-cases (λ a. 1 ≤ a .0 → usedAt p a ≡ false) (λ z h. from-free used 0 h .1) (λ k h. from-free used (p .last .0) h .1)
 
-  pub chosen-lowest : (a : RecordNumber) → 1 ≤ a .0 → a .0 < chosen p .0 → usedAt p a ≡ true
-  unfolding chosen
-  chosen-lowest a h k =
-      let f : Found 0 (p .records .used) = found 0 (p .records .used) (omega arith) in
-      below f a.0 h (omega (arith, f .number))
-    where
-      below : (f : Found 0 (p .records .used)) (i : ℕ) → 1 ≤ i → i < suc (f .place) → ofRecord (p .records .used) i false ≡ true
-      below f zero h k = absurd (not-suc-le-zero h)
-      below f (suc i) h k = f .lowest i (le-of-suc-le-suc k)
+  -- "the first free record above the last one made"
+  pub chosen-first : p .last .0 < chosen p .0 → (a : RecordNumber) → p .last .0 < a .0 → a .0 < chosen p .0 → usedAt p a ≡ true
+  unfolding firstAbove lowest
+  chosen-first =
+      chosen-cases (λ b. p .last .0 < b .0 → (a : RecordNumber) → p .last .0 < a .0 → a .0 < b .0 → usedAt p a ≡ true)
+      (λ z h a k l. from-none used (p .last .0) z a.0 k (omega (arith, from-low used 0)))
+      (λ some h a k l. from-first used (p .last .0) a.0 k l)
 
-  pub chosen-none : chosen p .0 ≡ 0 → (a : RecordNumber) → 1 ≤ a .0 → a .0 ≤ length (p .records .used) → usedAt p a ≡ true
-  unfolding chosen
-  chosen-none z a h k = at a.0 h k
-    where
-      at : (i : ℕ) → 1 ≤ i → i ≤ length (p .records .used) → ofRecord (p .records .used) i false ≡ true
-      at zero h k = absurd (not-suc-le-zero h)
-      at (suc i) h k = none-found 0 (p .records .used) z i k
+  -- "else the lowest": none above the last made is free, and none below what is picked
+  pub chosen-lowest : chosen p .0 ≤ p .last .0 → (a : RecordNumber) → 1 ≤ a .0 → a .0 ≤ length used → (a .0 < chosen p .0) ⊎ (p .last .0 < a .0) → usedAt p a ≡ true
+  unfolding firstAbove lowest
+  chosen-lowest =
+      chosen-cases (λ b. b .0 ≤ p .last .0 → (a : RecordNumber) → 1 ≤ a .0 → a .0 ≤ length used → (a .0 < b .0) ⊎ (p .last .0 < a .0) → usedAt p a ≡ true)
+      (λ z h a some low. ⊎-elim (λ below. from-first used 0 a.0 some below) (λ above. from-none used (p .last .0) z a.0 above low))
+      (λ there h. absurd (let above = from-free used (p .last .0) there .0 in omega arith))
+
+  pub chosen-none : chosen p .0 ≡ 0 → (a : RecordNumber) → 1 ≤ a .0 → a .0 ≤ length used → usedAt p a ≡ true
+  unfolding firstAbove lowest
+  chosen-none =
+      chosen-cases (λ b. b .0 ≡ 0 → (a : RecordNumber) → 1 ≤ a .0 → a .0 ≤ length used → usedAt p a ≡ true)
+      (λ z none a some low. from-none used 0 none a.0 some low)
+      (λ some none. absurd (omega arith))

@@ -45,7 +45,7 @@ module _ (s : Sizes) (h : isSmall s ≡ true) where
         makers = take-zeros (s .n) 64 (omega (arith, small s h .n)) j;
         values = take-zeros (links s) 256 (links-few s h) j;
         changed = take-zeros (links s) 256 (links-few s h) j;
-        registers = take-zeros (s .w * s .r) 32 (registers-few s h) j;
+        registers = take-zeros (s .w * s .r + 1) 33 (registers-few s h) j;
         snoops = take-zeros (s .w) 4 (omega (arith, small s h .w)) j;
         logs = take-zeros (s .w * room s) 2048 (logs-few s h) j;
         history = take-zeros (room s) 512 (omega (arith, links-few s h)) j;

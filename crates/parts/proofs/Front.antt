@@ -64,7 +64,7 @@ module _ (s : Sizes) (h : isSmall s ≡ true) where
   unfolding links
   links-few = omega (arith, mul-le-mul-left (s .n) (small s h .k), small s h .n)
 
-  pub registers-few : s .w * s .r ≤ 32
+  pub registers-few : s .w * s .r + 1 ≤ 33
   registers-few = omega (arith, mul-le-mul-left (s .w) (small s h .r), small s h .w)
 
   pub logs-few : s .w * room s ≤ 2048
@@ -78,7 +78,7 @@ pub record Within (s : Sizes) (t : Tables) : Type 0 where
   pub makers : s .n ≤ length (t .makers)
   pub values : links s ≤ length (t .values)
   pub changed : links s ≤ length (t .changed)
-  pub registers : s .w * s .r ≤ length (t .registers)
+  pub registers : s .w * s .r + 1 ≤ length (t .registers)
   pub snoops : s .w ≤ length (t .snoops)
   pub logs : s .w * room s ≤ length (t .logs)
   pub history : room s ≤ length (t .history)
@@ -117,7 +117,7 @@ back s t x =
       makers = x .makers ++ drop (s .n) (t .makers);
       values = x .values ++ drop (links s) (t .values);
       changed = x .changed ++ drop (links s) (t .changed);
-      registers = x .registers ++ drop (s .w * s .r) (t .registers);
+      registers = x .registers ++ drop (s .w * s .r + 1) (t .registers);
       snoops = x .snoops ++ drop (s .w) (t .snoops);
       logs = x .logs ++ drop (s .w * room s) (t .logs);
       history = x .history ++ drop (room s) (t .history);
@@ -141,7 +141,7 @@ module _ {s : Sizes} (t : Tables) {x : Tables} (exact : Exact s x) where
         makers = take-at (x .makers) (drop (s .n) (t .makers)) (s .n) (exact .makers) j;
         values = take-at (x .values) (drop (links s) (t .values)) (links s) (exact .values) j;
         changed = take-at (x .changed) (drop (links s) (t .changed)) (links s) (exact .changed) j;
-        registers = take-at (x .registers) (drop (s .w * s .r) (t .registers)) (s .w * s .r) (exact .registers) j;
+        registers = take-at (x .registers) (drop (s .w * s .r + 1) (t .registers)) (s .w * s .r + 1) (exact .registers) j;
         snoops = take-at (x .snoops) (drop (s .w) (t .snoops)) (s .w) (exact .snoops) j;
         logs = take-at (x .logs) (drop (s .w * room s) (t .logs)) (s .w * room s) (exact .logs) j;
         history = take-at (x .history) (drop (room s) (t .history)) (room s) (exact .history) j;

@@ -43,7 +43,7 @@ front s t =
       makers = take (s .n) (t .makers);
       values = take (links s) (t .values);
       changed = take (links s) (t .changed);
-      registers = take (s .w * s .r) (t .registers);
+      registers = take (s .w * s .r + 1) (t .registers);
       snoops = take (s .w) (t .snoops);
       logs = take (s .w * room s) (t .logs);
       history = take (room s) (t .history);
@@ -65,7 +65,7 @@ pub record Long (t : Tables) : Type 0 where
   pub makers : length (t .makers) ≡ 64
   pub values : length (t .values) ≡ 256
   pub changed : length (t .changed) ≡ 256
-  pub registers : length (t .registers) ≡ 32
+  pub registers : length (t .registers) ≡ 33
   pub snoops : length (t .snoops) ≡ 4
   pub logs : length (t .logs) ≡ 2048
   pub history : length (t .history) ≡ 512
@@ -82,7 +82,7 @@ aside =
       makers = replicate 64 0;
       values = replicate 256 0;
       changed = replicate 256 0;
-      registers = replicate 32 0;
+      registers = replicate 33 0;
       snoops = replicate 4 0;
       logs = replicate 2048 0;
       history = replicate 512 0;

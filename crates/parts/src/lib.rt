@@ -102,7 +102,7 @@ fn run_front(
     let n = s.n as usize;
     let w = s.w as usize;
     let links = n * (s.k as usize);
-    let all = w * (s.r as usize);
+    let all = w * (s.r as usize) + 1;
     let room = links * 2;
     let rooms = w * room;
     let lists = w + 1;

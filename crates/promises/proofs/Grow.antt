@@ -42,6 +42,7 @@ raised p count held snoop c =
           record { used = p .records .used; count = count; held = held; candidate = p .records .candidate; maker = p .records .maker };
       links = p .links;
       workers = record { registers = p .workers .registers; snoop = snoop; log = p .workers .log };
+      last = p .last;
       history = p .history;
       collector = c;
     }

@@ -1,7 +1,7 @@
 -- A register takes a record number: make, move, drop and load keep the invariant.
 --     register-cases                       what a register then holds
 --     named-register, phased-register      the invariant
---     Fresh, named-made, phased-made       a free record becomes used and gets a maker
+--     Fresh, named-made, phased-made       a free record becomes used and gets a maker, and is the last made
 -- Assumes nothing.
 use Prim.Native.Nat.{ℕ, _+_, _≤_, _<_}
 use mathlib.Core.Path.{_≡_, refl, sym, ap, _∙_, subst}
@@ -13,7 +13,7 @@ use lib.ListN.{length, getD, set}
 use Rattle.rules.specs.declared.Sizes.{Sizes}
 use Rattle.rules.specs.declared.RecordNumber.{RecordNumber}
 use Rattle.rules.specs.declared.LinkNumber.{LinkNumber}
-use Rattle.rules.specs.Pool.{Pool, none, withRecord, usedAt, makerAt, valueAt, registersAt, registerAt, withUsed, withMaker, withRegister}
+use Rattle.rules.specs.Pool.{Pool, none, withRecord, usedAt, makerAt, valueAt, registersAt, registerAt, withUsed, withMaker, withLast, withRegister}
 use Rattle.rules.specs.View.{allLogs, viewValue}
 use Rattle.laws.proofs.Tests.{eqb-cases}
 use Rattle.laws.proofs.Number.{record-same}
@@ -81,7 +81,7 @@ module _ {s : Sizes} {p : Pool} (w r : ℕ) (a : RecordNumber) where
 
 module _ (s : Sizes) (p : Pool) (w : ℕ) (a : RecordNumber) (some : 1 ≤ a .0) (low : a .0 ≤ length (p .records .used)) (low-maker : a .0 ≤ length (p .records .maker)) (free : usedAt p a ≡ false) where
   abbrev made : Pool
-  made = withMaker (withRecord (p .records .maker) (a .0) (w + 1)) (withUsed (withRecord (p .records .used) (a .0) true) p)
+  made = withLast a (withMaker (withRecord (p .records .maker) (a .0) (w + 1)) (withUsed (withRecord (p .records .used) (a .0) true) p))
 
   pub used-made : usedAt made a ≡ true
   used-made = ofRecord-same (p .records .used) a.0 true false some low

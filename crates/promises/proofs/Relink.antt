@@ -36,6 +36,7 @@ relinked p ls logs =
       records = p .records;
       links = ls;
       workers = record { registers = p .workers .registers; snoop = p .workers .snoop; log = logs };
+      last = p .last;
       history = p .history;
       collector = p .collector;
     }

@@ -45,7 +45,7 @@ aside-long =
       makers = length-replicate {A = ℕ} 64 0;
       values = length-replicate {A = ℕ} 256 0;
       changed = length-replicate {A = ℕ} 256 0;
-      registers = length-replicate {A = ℕ} 32 0;
+      registers = length-replicate {A = ℕ} 33 0;
       snoops = length-replicate {A = ℕ} 4 0;
       logs = length-replicate {A = ℕ} 2048 0;
       history = length-replicate {A = ℕ} 512 0;

@@ -107,7 +107,7 @@ fn main() {
     let mut makers = [0u16; 64];
     let mut values = [0u16; 256];
     let mut changed = [0u16; 256];
-    let mut registers = [0u16; 32];
+    let mut registers = [0u16; 33];
     let mut snoops = [0u16; 4];
     let mut logs = [0u16; 2048];
     let mut history = [0u16; 512];

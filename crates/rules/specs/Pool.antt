@@ -3,7 +3,7 @@
 --     none                                     0, the record number that is no record
 --     ofRecord, withRecord                     what a table of the records has for one record, and the table with another thing there
 --     usedAt .. makerAt, valueAt, changedAt, registerAt, snoopsAt, logAt     what a pool has for one record, link or worker
---     withUsed .. withMaker, withValue, withChanged, withRegister, withSnoop, withLog, withHistory, withCollector     the pool with that one thing changed
+--     withUsed .. withMaker, withValue, withChanged, withRegister, withSnoop, withLog, withLast, withHistory, withCollector     the pool with that one thing changed
 --     fresh                                    the fresh pool
 -- A mark or a flag is a Bool, so that it is 0 or 1; a list is as long as it says, so that nothing stands past its length. Both are clauses of "A sound
 -- pool" that only a table can break. Assumes nothing.
@@ -47,6 +47,8 @@ pub record Pool : Type 0 where
   pub records : Records
   pub links : Links
   pub workers : Workers
+  -- "The pool remembers the last made number" (document 02, request 1)
+  pub last : RecordNumber
   pub history : List Entry
   pub collector : Collector
 
@@ -103,19 +105,22 @@ logAt p w = getD (p .workers .log) w []
 -- ---- the pool with one thing changed
 
 abbrev pub withRecords : Records → Pool → Pool
-withRecords x p = record { records = x; links = p .links; workers = p .workers; history = p .history; collector = p .collector }
+withRecords x p = record { records = x; links = p .links; workers = p .workers; last = p .last; history = p .history; collector = p .collector }
 
 abbrev pub withLinks : Links → Pool → Pool
-withLinks x p = record { records = p .records; links = x; workers = p .workers; history = p .history; collector = p .collector }
+withLinks x p = record { records = p .records; links = x; workers = p .workers; last = p .last; history = p .history; collector = p .collector }
 
 abbrev pub withWorkers : Workers → Pool → Pool
-withWorkers x p = record { records = p .records; links = p .links; workers = x; history = p .history; collector = p .collector }
+withWorkers x p = record { records = p .records; links = p .links; workers = x; last = p .last; history = p .history; collector = p .collector }
+
+abbrev pub withLast : RecordNumber → Pool → Pool
+withLast x p = record { records = p .records; links = p .links; workers = p .workers; last = x; history = p .history; collector = p .collector }
 
 abbrev pub withHistory : List Entry → Pool → Pool
-withHistory x p = record { records = p .records; links = p .links; workers = p .workers; history = x; collector = p .collector }
+withHistory x p = record { records = p .records; links = p .links; workers = p .workers; last = p .last; history = x; collector = p .collector }
 
 abbrev pub withCollector : Collector → Pool → Pool
-withCollector x p = record { records = p .records; links = p .links; workers = p .workers; history = p .history; collector = x }
+withCollector x p = record { records = p .records; links = p .links; workers = p .workers; last = p .last; history = p .history; collector = x }
 
 abbrev pub withUsed : List Bool → Pool → Pool
 withUsed x p =
@@ -156,7 +161,7 @@ withLog w x p = let ws = p .workers in withWorkers (record { registers = ws .reg
 
 -- ---- the fresh pool
 
--- "A fresh pool has every number 0, every record free, every list empty, phase 0."
+-- "A fresh pool has every number 0, every record free, every list empty, phase 0." The last made number is "0 when fresh" (document 02, request 1)
 unfoldable pub fresh : Sizes → Pool
 fresh s =
     record {
@@ -170,6 +175,7 @@ fresh s =
           };
       links = record { value = replicate (links s) none; changed = replicate (links s) false };
       workers = record { registers = replicate (s .w) (replicate (s .r) none); snoop = replicate (s .w) false; log = replicate (s .w) [] };
+      last = none;
       history = [];
       collector = record { phase = 0; position = 0; closed = 0 };
     }

@@ -112,6 +112,8 @@ pub record Sound (s : Sizes) (p : Pool) : Type 0 where
   pub history-entries : T (entriesIn (p .collector .phase)) → 0 < length (p .history)
   -- "record numbers in registers .. 0..N"
   pub registers : (w r : ℕ) → registerAt p w r .0 ≤ s .n
+  -- "The pool remembers the last made number (.. 0..N in a sound pool)" (document 02, request 1)
+  pub last : p .last .0 ≤ s .n
   -- "record numbers in .. links .. 0..N"
   pub values : (l : LinkNumber) → valueAt p l .0 ≤ s .n
   -- "record numbers in .. entries 0..N; link numbers in entries below S"

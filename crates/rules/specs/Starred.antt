@@ -83,11 +83,17 @@ runs =
     ∷ refusedSizes 0 1
     ∷ takenSizes 1 8
     ∷ refusedSizes 1 9
-    -- "The listing above": the whole case of "The trace file"
+    -- "The listing above": the whole case of "The trace file", of which document 02's request 1 says: "In 01's whole case line 9 becomes `9 0 2`"
     ∷ row (sizesOf 2 1 1 1)
     (Make 0 0 ∷ Drop 0 0 ∷ steps 6 ++ (Make 0 0 ∷ []))
-    (done 1 ∷ done 0 ∷ nothing 4 ++ (done 1 ∷ done 0 ∷ done 1 ∷ []))
+    (done 1 ∷ done 0 ∷ nothing 4 ++ (done 1 ∷ done 0 ∷ done 2 ∷ []))
     (end 1 1 ∷ [])
+    -- "A make now takes the first free record above the last one made, else the lowest" (document 02, request 1): 2 is freed after it was made, and 3 is above it;
+    -- then 2 alone is free, below 3; freed once more it is the last made itself, and alone free
+    ∷ row (sizesOf 3 1 1 3)
+    (Make 0 0 ∷ Make 0 1 ∷ Drop 0 1 ∷ steps 6 ++ (Make 0 1 ∷ Make 0 2 ∷ Make 0 2 ∷ Drop 0 2 ∷ steps 6 ++ (Make 0 2 ∷ [])))
+    (done 1 ∷ done 2 ∷ done 0 ∷ nothing 4 ++ (done 2 ∷ done 0 ∷ done 3 ∷ done 2 ∷ (5, 0) ∷ done 0 ∷ nothing 4 ++ (done 2 ∷ done 0 ∷ done 2 ∷ [])))
+    (end 0 2 ∷ [])
     -- "N makes answer 1..N, the next 5."
     ∷ makesAll 1
     ∷ makesAll 3

@@ -1,18 +1,20 @@
 -- "Worker events" of document 01: what each does where nothing refuses it (the refusals are in Outcome).
---     firstFree, chosen                           the record that a make takes
+--     firstFree, firstAbove, lowest, chosen       the record that a make takes
 --     makes, moves, drops, loads                  these events
 --     mustLog, added, logged, snooped, stores     a store, and its parts
 -- Assumes nothing.
 use Prim.Native.Nat.{ℕ, suc, _+_}
 use mathlib.Core.Bool.{Bool, true, false, cond, not}
 use mathlib.Core.List.{List, [], _∷_, _++_}
+use lib.Dec.{eqb}
+use lib.ListN.{drop}
 use Rattle.rules.specs.declared.Sizes.{Sizes}
 use Rattle.rules.specs.declared.RecordNumber.{RecordNumber}
 use Rattle.rules.specs.declared.LinkNumber.{LinkNumber}
 use Rattle.rules.specs.declared.Answer.the-variants.{Made, Moved, Dropped, Loaded, Stored}
 use Rattle.rules.specs.Size.{linkNumber}
 use Rattle.rules.specs.Pool.{Pool, none, withRecord, valueAt, changedAt, registerAt, snoopsAt, logAt}
-use Rattle.rules.specs.Pool.{withUsed, withHeld, withMaker, withValue, withChanged, withRegister, withLog}
+use Rattle.rules.specs.Pool.{withUsed, withHeld, withMaker, withValue, withChanged, withRegister, withLog, withLast}
 use Rattle.rules.specs.Reply.{Outcome}
 
 -- ---- make
@@ -23,11 +25,20 @@ firstFree a [] = none
 firstFree a (false ∷ used) = record { 0 = a }
 firstFree a (true ∷ used) = firstFree (suc a) used
 
--- "the lowest free record"
-unfoldable pub chosen : Pool → RecordNumber
-chosen p = firstFree 1 (p .records .used)
+-- "the first free record above the last one made" (document 02, request 1)
+unfoldable pub firstAbove : Pool → RecordNumber
+firstAbove p = firstFree (suc (p .last .0)) (drop (p .last .0) (p .records .used))
 
--- "make w r: the lowest free record becomes used, its maker is w + 1, register r holds it. Nothing else of it is touched. Answer: its number."
+-- "the lowest"
+unfoldable pub lowest : Pool → RecordNumber
+lowest p = firstFree 1 (p .records .used)
+
+-- "A make now takes the first free record above the last one made, else the lowest." (document 02, request 1)
+unfoldable pub chosen : Pool → RecordNumber
+chosen p = cond (eqb (firstAbove p .0) 0) (lowest p) (firstAbove p)
+
+-- "make w r: [that record] becomes used, its maker is w + 1, register r holds it. Nothing else of it is touched. Answer: its number." "The pool remembers the
+-- last made number" (document 02, request 1)
 unfoldable pub makes : ℕ → ℕ → Pool → Outcome
 makes w r p =
     let a = chosen p in
@@ -35,7 +46,8 @@ makes w r p =
       answer = Made a;
       pool =
           withRegister w r a
-          (withMaker (withRecord (p .records .maker) (a .0) (w + 1)) (withUsed (withRecord (p .records .used) (a .0) true) p));
+          (withLast a
+          (withMaker (withRecord (p .records .maker) (a .0) (w + 1)) (withUsed (withRecord (p .records .used) (a .0) true) p)));
     }
 
 -- ---- move, drop, load

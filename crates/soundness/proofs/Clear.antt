@@ -76,6 +76,7 @@ module _ {s : Sizes} {p : Pool} (i : ℕ) (c : Core s p (drop i (p .history)) (p
               workers = c .shaped .workers;
             };
         registers = c .registers;
+        last = c .last;
         values = c .values;
         logs = c .logs;
         history = c .history;

@@ -32,6 +32,7 @@ use Rattle.laws.proofs.Phases.{moved}
 pub record Core (s : Sizes) (p : Pool) (clear count : List Entry) : Type 0 where
   pub shaped : Shaped s p
   pub registers : (w r : ℕ) → registerAt p w r .0 ≤ s .n
+  pub last : p .last .0 ≤ s .n
   pub values : (l : LinkNumber) → valueAt p l .0 ≤ s .n
   pub logs : Each (EntryInRange s) (allLogs p)
   pub history : Each (EntryInRange s) (p .history)
@@ -72,6 +73,7 @@ core {s} {p} h =
     record {
       shaped = h .shaped;
       registers = h .registers;
+      last = h .last;
       values = h .values;
       logs = h .logs;
       history = h .history;
@@ -117,6 +119,7 @@ core-moved x c =
     record {
       shaped = record { records = c .shaped .records; links = c .shaped .links; workers = c .shaped .workers };
       registers = c .registers;
+      last = c .last;
       values = c .values;
       logs = c .logs;
       history = c .history;
@@ -143,6 +146,7 @@ module _ {s : Sizes} {p : Pool} where
         history-empty = empty;
         history-entries = entries;
         registers = c .registers;
+        last = c .last;
         values = c .values;
         logs = c .logs;
         history = c .history;

@@ -147,6 +147,7 @@ module _ {s : Sizes} {p : Pool} (i : ℕ) (c : Core s p [] (drop i (p .history))
       record {
         shaped = record { records = shaped-rises s (falls x p) fallen y low-y; links = c .shaped .links; workers = c .shaped .workers };
         registers = c .registers;
+        last = c .last;
         values = c .values;
         logs = c .logs;
         history = c .history;
@@ -185,6 +186,7 @@ core-emptied-history c =
     record {
       shaped = record { records = c .shaped .records; links = c .shaped .links; workers = c .shaped .workers };
       registers = c .registers;
+      last = c .last;
       values = c .values;
       logs = c .logs;
       history = tt;
@@ -231,6 +233,7 @@ module _ {s : Sizes} {p : Pool} (c : Core s p [] []) (l : LinkNumber) (inside : 
               workers = c .shaped .workers;
             };
         registers = c .registers;
+        last = c .last;
         values = λ m. set-keeps (λ x. x .0 ≤ s .n) none (p .links .value) l.0 none zero-le (λ j. c .values (record { 0 = j })) m.0;
         logs = c .logs;
         history = c .history;

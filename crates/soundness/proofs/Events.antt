@@ -17,7 +17,7 @@ use Rattle.laws.proofs.Chosen.{chosen-low}
 use Rattle.laws.proofs.Change.{logged-keeps}
 use Rattle.laws.proofs.Lists.{length-withRecord, withRecord-keeps}
 use Rattle.soundness.proofs.Core.{Core, core}
-use Rattle.soundness.proofs.Parts.{core-register, core-records}
+use Rattle.soundness.proofs.Parts.{core-register, core-last, core-records}
 use Rattle.soundness.proofs.Store.{core-stored}
 use Rattle.soundness.proofs.Steps.{stays}
 
@@ -32,6 +32,7 @@ module _ {s : Sizes} {p : Pool} (h : Sound s p) where
   makes-sound w r k =
       stays h (makes w r p .pool) refl refl
       (core-register
+      (core-last
       (core-records (core h) (withRecord (p .records .used) (chosen p .0) true) (p .records .held) (p .records .candidate)
       (withRecord (p .records .maker) (chosen p .0) (w + 1))
       (length-withRecord (p .records .used) (chosen p .0) true ∙ h .shaped .records .used)
@@ -39,6 +40,8 @@ module _ {s : Sizes} {p : Pool} (h : Sound s p) where
       (h .shaped .records .candidate)
       (length-withRecord (p .records .maker) (chosen p .0) (w + 1) ∙ h .shaped .records .maker)
       (λ a. withRecord-keeps (λ m. m ≤ s .w) 0 (p .records .maker) (chosen p .0) (w + 1) (omega arith) (λ j. h .makers (record { 0 = j })) a.0))
+      (chosen p)
+      picked-low)
       w
       r
       (chosen p)

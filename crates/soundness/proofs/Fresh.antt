@@ -80,6 +80,7 @@ module _ (s : Sizes) where
                   };
             };
         registers = λ w r. omega (arith, nothing-held w r);
+        last = zero-le;
         values = λ l. subst (λ (a : RecordNumber). a .0 ≤ s .n) (sym (empty l)) zero-le;
         logs = subst (λ xs. Each (EntryInRange s) xs) (sym no-logs) tt;
         history = tt;

@@ -1,5 +1,7 @@
--- A change of one part of a pool that keeps the core: a register, the records' marks and makers, a snoop flag. None of them touches a link, a log or a count.
+-- A change of one part of a pool that keeps the core: a register, the last made number, the records' marks and makers, a snoop flag. None of them touches a link, a
+-- log or a count.
 --     core-register     a register takes a record number
+--     core-last         the last made number is another
 --     core-records      the records get other marks and makers
 --     core-snoop        a worker's snoop flag
 --     length-heldBy     what a scan does to the held marks keeps their length
@@ -12,7 +14,7 @@ use native.Mathlib.Omega.{arith}
 use lib.ListN.{length, getD, set, length-set}
 use Rattle.rules.specs.declared.Sizes.{Sizes}
 use Rattle.rules.specs.declared.RecordNumber.{RecordNumber}
-use Rattle.rules.specs.Pool.{Entry, Pool, none, ofRecord, withRecord, registersAt, withRecords, withRegister, withSnoop}
+use Rattle.rules.specs.Pool.{Entry, Pool, none, ofRecord, withRecord, registersAt, withRecords, withRegister, withSnoop, withLast}
 use Rattle.rules.specs.View.{allLogs, viewValue}
 use Rattle.rules.specs.Collect.{heldBy}
 use Rattle.laws.proofs.Lists.{set-keeps, set-keeps-below, length-withRecord}
@@ -36,6 +38,7 @@ module _ {s : Sizes} {p : Pool} {clear count : List Entry} (c : Core s p clear c
                   };
             };
         registers = set-keeps (λ l. (i : ℕ) → getD l i none .0 ≤ s .n) [] (p .workers .registers) w _ row (c .registers);
+        last = c .last;
         values = c .values;
         logs = c .logs;
         history = c .history;
@@ -56,6 +59,22 @@ module _ {s : Sizes} {p : Pool} {clear count : List Entry} (c : Core s p clear c
           v
           (omega (arith, c .shaped .workers .registers))
 
+  pub core-last : (a : RecordNumber) → a .0 ≤ s .n → Core s (withLast a p) clear count
+  unfolding allLogs viewValue
+  core-last a h =
+      record {
+        shaped = record { records = c .shaped .records; links = c .shaped .links; workers = c .shaped .workers };
+        registers = c .registers;
+        last = h;
+        values = c .values;
+        logs = c .logs;
+        history = c .history;
+        makers = c .makers;
+        once = c .once;
+        marks = c .marks;
+        counts = c .counts;
+      }
+
   pub core-records : (used held candidate : List Bool) (maker : List ℕ) → length used ≡ s .n → length held ≡ s .n → length candidate ≡ s .n → length maker ≡ s .n
       → ((a : RecordNumber) → ofRecord maker (a .0) 0 ≤ s .w)
       → Core s (withRecords (record { used = used; count = p .records .count; held = held; candidate = candidate; maker = maker }) p) clear count
@@ -69,6 +88,7 @@ module _ {s : Sizes} {p : Pool} {clear count : List Entry} (c : Core s p clear c
               workers = c .shaped .workers;
             };
         registers = c .registers;
+        last = c .last;
         values = c .values;
         logs = c .logs;
         history = c .history;
@@ -95,6 +115,7 @@ module _ {s : Sizes} {p : Pool} {clear count : List Entry} (c : Core s p clear c
                   };
             };
         registers = c .registers;
+        last = c .last;
         values = c .values;
         logs = c .logs;
         history = c .history;

@@ -56,6 +56,7 @@ module _ {s : Sizes} {p : Pool} {clear count : List Entry} (c : Core s p clear c
               workers = c .shaped .workers;
             };
         registers = c .registers;
+        last = c .last;
         values = λ m. set-keeps (λ x. x .0 ≤ s .n) none (p .links .value) l.0 a low (λ j. c .values (record { 0 = j })) m.0;
         logs = c .logs;
         history = c .history;
@@ -145,6 +146,7 @@ module _ {s : Sizes} {p : Pool} {clear count : List Entry} (c : Core s p clear c
                     };
               };
           registers = c .registers;
+          last = c .last;
           values = λ m. set-keeps (λ x. x .0 ≤ s .n) none (p .links .value) l.0 a low (λ j. c .values (record { 0 = j })) m.0;
           logs =
               Each-flatten-set (EntryInRange s) logs w (logAt p w ++ (entry ∷ [])) (c .logs)

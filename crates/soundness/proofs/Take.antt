@@ -83,6 +83,7 @@ module _ {s : Sizes} {p : Pool} (c : Core s p (p .history) (p .history)) (w : â„
                   };
             };
         registers = c .registers;
+        last = c .last;
         values = c .values;
         logs = Each-flatten-set (EntryInRange s) logs w [] (c .logs) tt;
         history = Each-append (EntryInRange s) (p .history) (logAt p w) (c .history) (Each-flatten (EntryInRange s) logs w (c .logs));

@@ -1,13 +1,14 @@
 -- A table in blocks of one size, and blocks joined to a table.
 --     length-cut, cut-at           the blocks that are cut off a table
 --     cut-sized, length-joined     each has the size, and together they are as long as the table
---     joined-cut, cut-joined       cutting and joining undo each other
+--     joined-cut, cut-joined       cutting and joining undo each other; cut-joined-before: where something lies behind the blocks
+--     set-append-add               a write in the second of two lists
 --     joined-at, joined-set        what stands at a place of a block, and blocks of which one place is written
 --     joined-block                 blocks of which one is written whole
 -- Assumes nothing.
-use Prim.Native.Nat.{ℕ, zero, suc, _+_, _*_, _<_}
+use Prim.Native.Nat.{ℕ, zero, suc, _+_, _*_, _≤_, _<_}
 use mathlib.Core.Path.{_≡_, refl, sym, ap, _∙_}
-use mathlib.Core.List.{List, [], _∷_, _++_, flatten, append-assoc}
+use mathlib.Core.List.{List, [], _∷_, _++_, flatten, append-assoc, append-nil}
 use native.Mathlib.Omega.{arith}
 use native.Mathlib.Nat.{suc-mul, zero-mul, le-of-suc-le-suc, not-suc-le-zero}
 use lib.ListN.{length, getD, take, drop, set, length-append, length-drop, take-append-drop}
@@ -36,7 +37,7 @@ cut-at (suc n) size xs (suc i) h =
 abbrev pub Sized : {A : Type 0} → ℕ → List (List A) → Type 0
 Sized size blocks = Each (λ b. length b ≡ size) blocks
 
-pub cut-sized : (n size : ℕ) (xs : List ℕ) → length xs ≡ n * size → Sized size (cut n size xs)
+pub cut-sized : (n size : ℕ) (xs : List ℕ) → n * size ≤ length xs → Sized size (cut n size xs)
 unfolding cut
 cut-sized zero size xs h = tt
 cut-sized (suc n) size xs h = (
@@ -44,12 +45,20 @@ cut-sized (suc n) size xs h = (
   cut-sized n size (drop size xs) (omega (arith, suc-mul n size, length-drop size xs)),
 )
 
-pub joined-cut : (n size : ℕ) (xs : List ℕ) → length xs ≡ n * size → flatten (cut n size xs) ≡ xs
+pub joined-cut : (n size : ℕ) (xs : List ℕ) → n * size ≤ length xs → flatten (cut n size xs) ≡ take (n * size) xs
 unfolding cut flatten
-joined-cut zero size [] h = refl
-joined-cut zero size (x ∷ xs) h = absurd (omega (arith, zero-mul size))
+joined-cut zero size xs h = rw zero-mul
 joined-cut (suc n) size xs h =
-    ap (λ t. take size xs ++ t) (joined-cut n size (drop size xs) (omega (arith, suc-mul n size, length-drop size xs))) ∙ take-append-drop size xs
+    ap (λ t. take size xs ++ t) (joined-cut n size (drop size xs) (omega (arith, suc-mul n size, length-drop size xs)))
+    ∙ sym (take-append-add (take size xs) (drop size xs) (n * size))
+    ∙ (let e : length (take size xs) + n * size ≡ suc n * size = omega (arith, suc-mul n size, length-take-le size xs (omega (arith, suc-mul n size))) in
+    λ j. take (e j) (take-append-drop size xs j))
+
+pub set-append-add : {A : Type 0} (xs ys : List A) (n : ℕ) (x : A) → set (xs ++ ys) (length xs + n) x ≡ xs ++ set ys n x
+set-append-add [] ys n x = ap (λ (k : ℕ). set ys k x) (let e : 0 + n ≡ n = omega arith in e)
+set-append-add (y ∷ xs) ys n x =
+    ap (λ (k : ℕ). set (y ∷ (xs ++ ys)) k x) (let e : suc (length xs) + n ≡ suc (length xs + n) = omega arith in e)
+    ∙ ap (λ t. y ∷ t) (set-append-add xs ys n x)
 
 module _ {A : Type 0} (size : ℕ) where
   pub length-joined : (blocks : List (List A)) → Sized size blocks → length (flatten blocks) ≡ length blocks * size
@@ -70,12 +79,6 @@ module _ {A : Type 0} (size : ℕ) where
       ap (λ (j : ℕ). getD (b ++ flatten blocks) j d) (let e : suc w * size + i ≡ length b + (w * size + i) = omega (arith, suc-mul w size, h .0) in e)
       ∙ getD-append-add b (flatten blocks) (w * size + i) d
       ∙ joined-at blocks w i d (h .1) (le-of-suc-le-suc k) l
-
-  set-append-add : (xs ys : List A) (n : ℕ) (x : A) → set (xs ++ ys) (length xs + n) x ≡ xs ++ set ys n x
-  set-append-add [] ys n x = ap (λ (k : ℕ). set ys k x) (let e : 0 + n ≡ n = omega arith in e)
-  set-append-add (y ∷ xs) ys n x =
-      ap (λ (k : ℕ). set (y ∷ (xs ++ ys)) k x) (let e : suc (length xs) + n ≡ suc (length xs + n) = omega arith in e)
-      ∙ ap (λ t. y ∷ t) (set-append-add xs ys n x)
 
   -- a write at place i of block w is a write in the table
   pub joined-set : (blocks : List (List A)) (w i : ℕ) (x : A) → Sized size blocks → w < length blocks → i < size
@@ -102,8 +105,15 @@ module _ {A : Type 0} (size : ℕ) where
       rw (e, take-append-add, drop-append-add)
       (ap (λ t. a ++ t) (joined-block blocks w b (h .1) (le-of-suc-le-suc k)) ∙ sym (append-assoc a _ _))
 
-pub cut-joined : (size : ℕ) (blocks : List (List ℕ)) → Sized size blocks → cut (length blocks) size (flatten blocks) ≡ blocks
+-- whatever lies behind the blocks
+pub cut-joined-before : (size : ℕ) (blocks : List (List ℕ)) (rest : List ℕ) → Sized size blocks → cut (length blocks) size (flatten blocks ++ rest) ≡ blocks
 unfolding cut flatten
-cut-joined size [] h = refl
-cut-joined size (b ∷ blocks) h =
-    λ j. take-at b (flatten blocks) size (h .0) j ∷ (ap (cut (length blocks) size) (drop-at b (flatten blocks) size (h .0)) ∙ cut-joined size blocks (h .1)) j
+cut-joined-before size [] rest h = refl
+cut-joined-before size (b ∷ blocks) rest h =
+    rw append-assoc
+    (λ j.
+    take-at b (flatten blocks ++ rest) size (h .0) j
+    ∷ (ap (cut (length blocks) size) (drop-at b (flatten blocks ++ rest) size (h .0)) ∙ cut-joined-before size blocks rest (h .1)) j)
+
+pub cut-joined : (size : ℕ) (blocks : List (List ℕ)) → Sized size blocks → cut (length blocks) size (flatten blocks) ≡ blocks
+cut-joined size blocks h = ap (cut (length blocks) size) (sym (append-nil (flatten blocks))) ∙ cut-joined-before size blocks [] h

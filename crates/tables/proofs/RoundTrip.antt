@@ -1,6 +1,7 @@
 -- The tables of a pool and the pool of tables undo each other.
 --     pool-of-tables      a pool with lists of their lengths, written out and read again, is the pool
 --     tables-of-pool      tables of their lengths, with marks of 0 and 1, lists in their room and 0 past them, read and written out again, are the tables
+--     last-apart          the last of n + 1 numbers
 --     known-back          tables that are known are the tables of the pool that they mean
 --     sound-known         the tables of a sound pool are known
 -- The first two are field by field: marks and record numbers one by one (Marks), registers and logs block by block (Blocks), entries pair by pair (Entered).
@@ -25,7 +26,7 @@ use Rattle.rules.specs.Sound.{Each, Sound, ShapedWorkers, Shaped}
 use Rattle.tables.specs.Tables.{Tables}
 use Rattle.tables.specs.Lie.{recordNumbers, numbers, cut, entries, laid, room, poolOf, tablesOf}
 use Rattle.tables.specs.Known.{Exact, Marked, block, Padded, Known}
-use Rattle.tables.proofs.Blocks.{Sized, length-cut, cut-at, cut-sized, joined-cut, cut-joined, length-joined}
+use Rattle.tables.proofs.Blocks.{Sized, length-cut, cut-at, cut-sized, joined-cut, cut-joined-before, cut-joined, length-joined}
 use Rattle.tables.proofs.Entered.{length-entries, length-laid, laid-past, entries-laid, laid-entries}
 use Rattle.tables.proofs.Marks.{marks-bits, bits-marks, bits-low, named-numbers, numbers-named}
 
@@ -36,7 +37,7 @@ map-undone f g h [] = refl
 map-undone f g h (x ∷ xs) = λ j. h x j ∷ map-undone f g h xs j
 
 -- the last of n + 1 numbers
-last-apart : (n : ℕ) (xs : List ℕ) → length xs ≡ n + 1 → take n xs ++ (getD xs n 0 ∷ []) ≡ xs
+pub last-apart : (n : ℕ) (xs : List ℕ) → length xs ≡ n + 1 → take n xs ++ (getD xs n 0 ∷ []) ≡ xs
 last-apart n xs h = sym (take-suc xs n 0 (omega arith)) ∙ take-all (suc n) xs (omega arith)
 
 -- ---- from a pool and back
@@ -56,6 +57,11 @@ pub sized-rows : (size : ℕ) (rows : List (List RecordNumber)) → Each (λ l. 
 sized-rows size [] h = tt
 sized-rows size (row ∷ rows) h = (length-map row (λ a. a .0) ∙ h .0, sized-rows size rows (h .1))
 
+pub length-rows : (s : Sizes) (ws : Workers) → ShapedWorkers s ws → length (flatten (map numbers (ws .registers))) ≡ s .w * s .r
+length-rows s ws shaped =
+    length-joined (s .r) (map numbers (ws .registers)) (sized-rows (s .r) (ws .registers) (rows-sized s ws shaped))
+    ∙ ap (λ (n : ℕ). n * s .r) (length-map (ws .registers) numbers ∙ shaped .registers)
+
 pub sized-logs : (most : ℕ) (logs : List (List Entry)) → Sized (most * 2) (map (laid most) logs)
 sized-logs most [] = tt
 sized-logs most (l ∷ logs) = (length-laid most l, sized-logs most logs)
@@ -68,14 +74,18 @@ module _ (s : Sizes) (p : Pool) (shaped : Shaped s p) (logs : (w : ℕ) → leng
   pub rows-cut : cut (s .w) (s .r) (tablesOf s p .registers) ≡ map numbers (p .workers .registers)
   unfolding tablesOf
   rows-cut =
-      ap (λ (n : ℕ). cut n (s .r) (flatten (map numbers (p .workers .registers)))) (sym (length-map (p .workers .registers) numbers ∙ shaped .workers .registers))
-      ∙ cut-joined (s .r) (map numbers (p .workers .registers)) (sized-rows (s .r) (p .workers .registers) (rows-sized s (p .workers) (shaped .workers)))
+      ap (λ (n : ℕ). cut n (s .r) (tablesOf s p .registers)) (sym (length-map (p .workers .registers) numbers ∙ shaped .workers .registers))
+      ∙ cut-joined-before (s .r) (map numbers (p .workers .registers)) (p .last .0 ∷ []) (sized-rows (s .r) (p .workers .registers) (rows-sized s (p .workers) (shaped .workers)))
 
   pub logs-cut : cut (s .w) (room s) (tablesOf s p .logs) ≡ map (laid (links s)) (p .workers .log)
   unfolding tablesOf
   logs-cut =
       ap (λ (n : ℕ). cut n (room s) (flatten (map (laid (links s)) (p .workers .log)))) (sym (length-map (p .workers .log) (laid (links s)) ∙ shaped .workers .log))
       ∙ cut-joined (room s) (map (laid (links s)) (p .workers .log)) (sized-logs (links s) (p .workers .log))
+
+  last-there : getD (tablesOf s p .registers) (s .w * s .r) 0 ≡ p .last .0
+  unfolding tablesOf
+  last-there = getD-at (flatten (map numbers (p .workers .registers))) (p .last .0) [] 0 (s .w * s .r) (length-rows s (p .workers) (shaped .workers))
 
   history-length : getD (tablesOf s p .lengths) (s .w) 0 ≡ length (p .history)
   unfolding tablesOf
@@ -103,6 +113,7 @@ module _ (s : Sizes) (p : Pool) (shaped : Shaped s p) (logs : (w : ℕ) → leng
                   (ap (zipWith entries (tablesOf s p .lengths)) logs-cut
                   ∙ logs-back (links s) (p .workers .log) (length (p .history) ∷ []) logs-low) j;
             };
+        last = record { 0 = last-there j };
         history = (ap (λ (n : ℕ). entries n (laid (links s) (p .history))) history-length ∙ entries-laid (links s) (p .history) history) j;
         collector = p .collector;
       }
@@ -142,7 +153,7 @@ module _ (s : Sizes) (t : Tables) (c : Collector) (exact : Exact s t) (marked : 
   each-room i k =
       let here : i < s .w = omega (arith, length-cut (s .w) (room s) (t .logs)) in (
         low i (omega arith),
-        Each-at (λ b. length b ≡ room s) rooms i [] k (cut-sized (s .w) (room s) (t .logs) (exact .logs)),
+        Each-at (λ b. length b ≡ room s) rooms i [] k (cut-sized (s .w) (room s) (t .logs) (omega (arith, exact .logs))),
         subst (λ (b : List ℕ). Each (λ x. x ≡ 0) (drop (getD (t .lengths) i 0 * 2) b)) (sym (cut-at (s .w) (room s) (t .logs) i here)) (padded .logs i here),
       )
 
@@ -165,10 +176,13 @@ module _ (s : Sizes) (t : Tables) (c : Collector) (exact : Exact s t) (marked : 
         values = numbers-named (t .values) j;
         changed = bits-marks (t .changed) (marked .changed) j;
         registers =
+            ((λ i.
             (ap flatten (map-undone recordNumbers numbers numbers-named (cut (s .w) (s .r) (t .registers)))
-            ∙ joined-cut (s .w) (s .r) (t .registers) (exact .registers)) j;
+            ∙ joined-cut (s .w) (s .r) (t .registers) (omega (arith, exact .registers))) i
+            ++ (getD (t .registers) (s .w * s .r) 0 ∷ []))
+            ∙ last-apart (s .w * s .r) (t .registers) (exact .registers)) j;
         snoops = bits-marks (t .snoops) (marked .snoops) j;
-        logs = (ap flatten (rooms-back (links s) (t .lengths) rooms enough each-room) ∙ joined-cut (s .w) (room s) (t .logs) (exact .logs)) j;
+        logs = (ap flatten (rooms-back (links s) (t .lengths) rooms enough each-room) ∙ joined-cut (s .w) (room s) (t .logs) (omega (arith, exact .logs)) ∙ take-all (s .w * room s) (t .logs) (omega (arith, exact .logs))) j;
         history = laid-entries (links s) (getD (t .lengths) (s .w) 0) (t .history) (exact .history) (low (s .w) (omega arith)) (padded .history) j;
         lengths = lengths-whole j;
       }
@@ -214,9 +228,8 @@ module _ (s : Sizes) (range : inRange s ≡ true) (p : Pool) (sound : Sound s p)
         values = length-map (p .links .value) (λ a. a .0) ∙ shaped .links .value;
         changed = length-map (p .links .changed) bit ∙ shaped .links .changed;
         registers =
-            length-joined (s .r) (map numbers (p .workers .registers))
-            (sized-rows (s .r) (p .workers .registers) (rows-sized s (p .workers) (shaped .workers)))
-            ∙ ap (λ (n : ℕ). n * s .r) (length-map (p .workers .registers) numbers ∙ shaped .workers .registers);
+            length-append (flatten (map numbers (p .workers .registers))) (p .last .0 ∷ [])
+            ∙ ap (λ (n : ℕ). n + 1) (length-rows s (p .workers) (shaped .workers));
         snoops = length-map (p .workers .snoop) bit ∙ shaped .workers .snoop;
         logs =
             length-joined (room s) (map (laid (links s)) (p .workers .log)) (sized-logs (links s) (p .workers .log))

@@ -1,6 +1,6 @@
 -- One thing of a pool changed, and the tables of the pool after it.
 --     number-set, mark-record, mark-set     what is written for a record, in a table of numbers and in one of marks
---     register-written            a register takes a record number
+--     register-written, last-written        a register takes a record number; the last made number is another
 --     value-written, changed-written, snoop-written     a link's value, its mark, a worker's flag
 --     falls-written               a count falls
 --     log-added                   a log gets an entry more
@@ -18,17 +18,18 @@ use Rattle.rules.specs.declared.Sizes.{Sizes}
 use Rattle.rules.specs.declared.RecordNumber.{RecordNumber}
 use Rattle.rules.specs.declared.LinkNumber.{LinkNumber}
 use Rattle.rules.specs.Size.{links}
-use Rattle.rules.specs.Pool.{Entry, Pool, withRecord, countAt, registersAt, logAt, withValue, withChanged, withRegister, withSnoop, withLog}
+use Rattle.rules.specs.Pool.{Entry, Pool, withRecord, countAt, registersAt, logAt, withValue, withChanged, withRegister, withLast, withSnoop, withLog}
 use Rattle.rules.specs.View.{bit}
 use Rattle.rules.specs.Collect.{falls}
 use Rattle.rules.specs.Sound.{Each, ShapedWorkers}
 use Rattle.tables.specs.Tables.{Tables, putCounts, putCandidates, putValues, putChanged, putRegisters, putSnoops, putLogs, putLengths}
 use Rattle.tables.specs.Lie.{marks, bits, numbers, laid, room, tablesOf}
 use Rattle.tables.specs.Counted.{fewer, fallen}
-use Rattle.tables.proofs.Blocks.{Sized, joined-set}
+use Rattle.tables.proofs.Blocks.{Sized, set-append-add, joined-set}
 use Rattle.tables.proofs.Entered.{laid-added}
 use Rattle.tables.proofs.Marks.{bits-marks}
-use Rattle.tables.proofs.RoundTrip.{rows-sized, sized-rows, sized-logs}
+use Rattle.tables.proofs.RoundTrip.{rows-sized, sized-rows, length-rows, sized-logs}
+use Rattle.laws.proofs.Number.{block-inside}
 use Rattle.laws.proofs.Lists.{Each-at, Each-set, map-set, map-withRecord, map-at}
 
 -- ---- for one record
@@ -83,6 +84,7 @@ module _ (s : Sizes) (p : Pool) (shaped : ShapedWorkers s (p .workers)) where
       let rows = p .workers .registers in
       let inside : w < length rows = omega (arith, shaped .registers) in
       ap (λ (table : List ℕ). putRegisters table (tablesOf s p))
+      (ap (λ (table : List ℕ). table ++ (p .last .0 ∷ []))
       (ap flatten
       (map-set numbers rows w (set (registersAt p w) r x)
       ∙ ap (set (map numbers rows) w) (map-set (λ a. a .0) (registersAt p w) r x ∙ ap (λ (row : List ℕ). set row r (x .0)) (sym (map-at numbers rows w [] [] inside))))
@@ -90,6 +92,15 @@ module _ (s : Sizes) (p : Pool) (shaped : ShapedWorkers s (p .workers)) where
       (sized-rows (s .r) rows (rows-sized s (p .workers) shaped))
       (omega (arith, length-map rows numbers))
       l)
+      ∙ sym (set-append-left (flatten (map numbers rows)) (p .last .0 ∷ []) (w * s .r + r) (x .0) (omega (arith, length-rows s (p .workers) shaped, block-inside w (s .w) (s .r) r k l))))
+
+  pub last-written : (x : RecordNumber) → tablesOf s (withLast x p) ≡ putRegisters (set (tablesOf s p .registers) (s .w * s .r) (x .0)) (tablesOf s p)
+  unfolding tablesOf
+  last-written x =
+      let rows : List ℕ = flatten (map numbers (p .workers .registers)) in
+      let place : length rows + 0 ≡ s .w * s .r = omega (arith, length-rows s (p .workers) shaped) in
+      ap (λ (table : List ℕ). putRegisters table (tablesOf s p))
+      (sym (set-append-add rows (p .last .0 ∷ []) 0 (x .0)) ∙ ap (λ (i : ℕ). set (rows ++ (p .last .0 ∷ [])) i (x .0)) place)
 
   -- ---- the logs
 

@@ -27,7 +27,7 @@ pub record Exact (s : Sizes) (t : Tables) : Type 0 where
   pub makers : length (t .makers) ≡ s .n
   pub values : length (t .values) ≡ links s
   pub changed : length (t .changed) ≡ links s
-  pub registers : length (t .registers) ≡ s .w * s .r
+  pub registers : length (t .registers) ≡ s .w * s .r + 1
   pub snoops : length (t .snoops) ≡ s .w
   pub logs : length (t .logs) ≡ s .w * room s
   pub history : length (t .history) ≡ room s

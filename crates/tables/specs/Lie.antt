@@ -92,6 +92,7 @@ poolOf s t c =
             snoop = marks (t .snoops);
             log = logsIn s (t .logs) (t .lengths);
           };
+      last = recordNumber (getD (t .registers) (s .w * s .r) 0);
       history = entries (getD (t .lengths) (s .w) 0) (t .history);
       collector = c;
     }
@@ -108,7 +109,7 @@ tablesOf s p =
       makers = p .records .maker;
       values = numbers (p .links .value);
       changed = bits (p .links .changed);
-      registers = flatten (map numbers (p .workers .registers));
+      registers = flatten (map numbers (p .workers .registers)) ++ (p .last .0 ∷ []);
       snoops = bits (p .workers .snoop);
       logs = flatten (map (laid (links s)) (p .workers .log));
       history = laid (links s) (p .history);

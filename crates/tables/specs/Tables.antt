@@ -18,7 +18,7 @@ pub record Tables : Type 0 where
   -- S each: link l at place l
   pub values : List ℕ
   pub changed : List ℕ
-  -- W x R: register r of worker w at place w x R + r
+  -- W x R + 1: register r of worker w at place w x R + r; behind them the last made number
   pub registers : List ℕ
   -- W: worker w at place w
   pub snoops : List ℕ

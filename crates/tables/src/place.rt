@@ -1,4 +1,4 @@
-// The sizes, and where a record, a link, a register and a log stand in their tables (decision 2 of docs/DECISIONS.md). Inner.
+// The sizes, and where a record, a link, a register, the last made number and a log stand in their tables (decision 2 of docs/DECISIONS.md). Inner.
 use rules::LinkNumber;
 use rules::RecordNumber;
 use rules::Sizes;
@@ -55,6 +55,14 @@ pub fn register_place(s: Sizes, w: u16, r: u16) -> usize
     ensures { λ x. ⌜ (x ≡ w * s .r + r) × (x < s .w * s .r) ⌝ }
 {
     (w as usize) * (s.r as usize) + (r as usize)
+}
+
+// Behind the registers: the place of the last made number.
+pub fn last_place(s: Sizes) -> usize
+    requires { ⌜ inRange s ≡ true ⌝ }
+    ensures { λ x. ⌜ x ≡ s .w * s .r ⌝ }
+{
+    (s.w as usize) * (s.r as usize)
 }
 
 // "entry i of worker w at w x 2S + 2i": where the log of worker w begins.

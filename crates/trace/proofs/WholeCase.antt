@@ -30,7 +30,7 @@ line : ℕ → ℕ → ℕ → Line
 line step number value = record { step = step; number = number; value = value }
 
 printed : replayed (λ s. true) bytes .lines
-    ≡ line 1 0 1 ∷ line 2 0 0 ∷ line 3 0 0 ∷ line 4 0 0 ∷ line 5 0 0 ∷ line 6 0 0 ∷ line 7 0 1 ∷ line 8 0 0 ∷ line 9 0 1 ∷ []
+    ≡ line 1 0 1 ∷ line 2 0 0 ∷ line 3 0 0 ∷ line 4 0 0 ∷ line 5 0 0 ∷ line 6 0 0 ∷ line 7 0 1 ∷ line 8 0 0 ∷ line 9 0 2 ∷ []
 unfolding computes collectAt bytes line payloadOf eventAt refusals decide taken fieldAt behindEnd readAt goes replayed
 printed = refl
 

@@ -4,7 +4,7 @@
 --     made, moved, dropped, loaded     the events
 -- Assumes nothing.
 use Prim.Native.Nat.{ℕ, _+_, _-_, _*_, _≤_, _<_}
-use mathlib.Core.Path.{_≡_, sym, ap, _∙_}
+use mathlib.Core.Path.{_≡_, refl, sym, ap, _∙_}
 use mathlib.Core.Bool.{Bool, true, false, not, _&&_}
 use mathlib.Core.List.{List}
 use native.Mathlib.Omega.{arith}
@@ -18,18 +18,18 @@ use Rattle.rules.specs.declared.Event.the-variants.{Make, Move, Drop, Load}
 use Rattle.rules.specs.declared.Answer.the-variants.{Made, Moved, Dropped, Loaded}
 use Rattle.rules.specs.declared.Collector.{Collector}
 use Rattle.rules.specs.Size.{linkNumber}
-use Rattle.rules.specs.Pool.{Pool, none, withRecord, valueAt, registerAt, withUsed, withMaker, withRegister}
+use Rattle.rules.specs.Pool.{Pool, none, withRecord, valueAt, registerAt, withUsed, withMaker, withLast, withRegister}
 use Rattle.rules.specs.Worker.{chosen, makes, moves, drops, loads}
 use Rattle.rules.specs.Outcome.{hasWorker, hasRegister, hasLink, noneFree, refusals, does}
 use Rattle.laws.proofs.Chosen.{chosen-low}
 use Rattle.laws.proofs.Refusals.{register-there, move-there, load-there}
 use Rattle.tables.specs.Tables.{Tables, putUsed, putMakers, putRegisters}
-use Rattle.tables.specs.Lie.{isOn, recordNumber, bits, poolOf, tablesOf}
+use Rattle.tables.specs.Lie.{isOn, marks, recordNumber, bits, poolOf, tablesOf}
 use Rattle.tables.specs.Known.{Known}
 use Rattle.tables.specs.Event.{eventOn}
 use Rattle.tables.proofs.RoundTrip.{known-back}
 use Rattle.tables.proofs.Stand.{value-stands, register-stands}
-use Rattle.tables.proofs.Written.{number-set, mark-set, register-written}
+use Rattle.tables.proofs.Written.{number-set, mark-set, register-written, last-written}
 use Rattle.tables.proofs.Done.{done-on}
 use Rattle.worker.proofs.Refused.{unrefused}
 
@@ -68,6 +68,18 @@ module _ {s : Sizes} {t : Tables} {c : Collector} (known : Known s t c) where
       let a : RecordNumber = register-stands s t c w q (at .0 .worker) (at .1) j in
       record { answer = Moved a; collector = c; tables = putRegisters (set (t .registers) (place w r) (a .0)) t })
 
+  -- the marks and the number that a make's search goes by
+  pub marks-stand : p .records .used ≡ marks (t .used)
+  unfolding poolOf
+  marks-stand = refl
+
+  pub last-stands : (i : ℕ) → i ≡ s .w * s .r → p .last .0 ≡ getD (t .registers) i 0
+  unfolding poolOf
+  last-stands i e = ap (λ (j : ℕ). getD (t .registers) j 0) (sym e)
+
+  pub last-low : (i : ℕ) → i ≡ s .w * s .r → getD (t .registers) i 0 ≤ s .n
+  last-low i e = omega (arith, last-stands i e, known .tables .sound .last)
+
   pub chosen-inside : chosen p .0 ≤ s .n
   unfolding poolOf
   chosen-inside = omega (arith, chosen-low p, length-map (t .used) isOn, known .exact .used)
@@ -78,7 +90,7 @@ module _ {s : Sizes} {t : Tables} {c : Collector} (known : Known s t c) where
       ≡ record {
         answer = Made (chosen p);
         collector = c;
-        tables = putRegisters (set (t .registers) (place w r) a) (putMakers (set (t .makers) (a - 1) (w + 1)) (putUsed (set (t .used) (a - 1) 1) t));
+        tables = putRegisters (set (set (t .registers) (s .w * s .r) a) (place w r) a) (putMakers (set (t .makers) (a - 1) (w + 1)) (putUsed (set (t .used) (a - 1) 1) t));
       }
   unfolding refusals noneFree does makes poolOf tablesOf
   made w r here some =
@@ -87,14 +99,16 @@ module _ {s : Sizes} {t : Tables} {c : Collector} (known : Known s t c) where
       let used : List Bool = withRecord (p .records .used) a true in
       let makers : List ℕ = withRecord (p .records .maker) a (w + 1) in
       let q : Pool = withMaker makers (withUsed used p) in
+      let shaped = known .tables .sound .shaped .workers in
       done-on known (Make w r) (makes w r p) _
       (unrefused known (Make w r) (ap not here, (ne-eqb a 0 (λ e. omega arith), tt)))
-      (register-written s q (known .tables .sound .shaped .workers) w r (chosen p) (at .worker) (at .register)
+      (register-written s (withLast (chosen p) q) shaped w r (chosen p) (at .worker) (at .register)
+      ∙ ap (λ (u : Tables). putRegisters (set (u .registers) (place w r) a) u) (last-written s q shaped (chosen p))
       ∙ ap
-      (λ (u : Tables). putRegisters (set (u .registers) (place w r) a) (putMakers makers (putUsed (bits used) u)))
+      (λ (u : Tables). putRegisters (set (set (u .registers) (s .w * s .r) a) (place w r) a) (putMakers makers (putUsed (bits used) u)))
       (known-back known)
       ∙ (λ j.
-      putRegisters (set (t .registers) (place w r) a)
+      putRegisters (set (set (t .registers) (s .w * s .r) a) (place w r) a)
       (putMakers (number-set (t .makers) a (w + 1) some j) (putUsed (mark-set (t .used) a true some (known .tables .marked .used) j) t))))
 
   -- the link of the record in a register

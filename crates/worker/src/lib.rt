@@ -1,7 +1,8 @@
 // The worker events of document 01, each on the tables that it touches, of a pool that is known to be sound. All of it is inner (decision 4 of
 // docs/DECISIONS.md): the call on a whole pool is `pool::event`.
 //     makes, moves, drops, loads, stores    the events; each has the name of its definition in rules/specs/Worker.antt
-//     chosen, full_before, eight_used       the record that a make takes
+//     chosen, first_free                    the record that a make takes
+//     full_before, eight_used               used records, eight in a turn
 //     logged, snooped                       the parts of a store that may or may not happen
 use rules::Answer;
 use rules::Collector;
@@ -12,6 +13,7 @@ use rules::Refusal;
 use rules::Sizes;
 use tables::mark::is_on;
 use tables::mark::set_mark;
+use tables::place::last_place;
 use tables::place::link_count;
 use tables::place::link_number;
 use tables::place::log_place;
@@ -24,10 +26,11 @@ ghost use Prim.Native.Nat.{_+_, _≤_, _<_};
 ghost use lib.Dec.{leb};
 ghost use lib.ListN.{length, getD};
 ghost use Rattle.rules.specs.Size.{inRange, links};
+ghost use Rattle.rules.specs.Pool.{Pool};
 ghost use Rattle.rules.specs.Worker.{chosen as chosenIn};
 ghost use Rattle.rules.specs.Outcome.{hasWorker, hasRegister};
-ghost use Rattle.tables.specs.Tables.{Tables, putUsed, putRegisters};
-ghost use Rattle.tables.specs.Lie.{isOn, poolOf};
+ghost use Rattle.tables.specs.Tables.{Tables, putRegisters};
+ghost use Rattle.tables.specs.Lie.{isOn, marks};
 ghost use Rattle.tables.specs.Event.{SomePool, Answers};
 ghost use Rattle.worker.specs.Lent.{makesOn, loadsOn, storesOn, logsOn, loggedOn, RoomToLog, heldAfter};
 ghost use Rattle.worker.specs.Raw.{allOn, freeFrom};
@@ -54,12 +57,12 @@ fn eight_used(used: &[u16], place: usize) -> bool
         & is_on(used, place + 7)
 }
 
-// A place before which no record is free, found by eights.
-fn full_before(used: &[u16]) -> usize
-    requires { ⌜ length (now used) ≤ 1024 ⌝ }
-    ensures { λ x. ⌜ (x ≤ length (now (used .entry))) × (freeFrom (now (used .entry)) 0 ≡ freeFrom (now (used .entry)) x) ⌝ }
+// A place between which and another no record is free, found by eights.
+fn full_before(used: &[u16], from: usize) -> usize
+    requires { ⌜ (length (now used) ≤ 1024) × (from ≤ length (now used)) ⌝ }
+    ensures { λ x. ⌜ (x ≤ length (now (used .entry))) × (freeFrom (now (used .entry)) from ≡ freeFrom (now (used .entry)) x) ⌝ }
 {
-    let mut i = 0;
+    let mut i = from;
     while i + 7 < used.len() {
         if !eight_used(used, i) {
             return i;
@@ -69,12 +72,12 @@ fn full_before(used: &[u16]) -> usize
     i
 }
 
-// What a make takes: "the lowest free record", none where none is free.
-fn chosen(used: &[u16]) -> RecordNumber
-    requires { ⌜ length (now used) ≤ 1024 ⌝ }
-    ensures { λ a. ⌜ ((s : Sizes) (t : Tables) (c : Collector) → a ≡ chosenIn (poolOf s (putUsed (now (used .entry)) t) c)) ⌝ }
+// The first free record from a place on, none where none is free.
+fn first_free(used: &[u16], from: usize) -> RecordNumber
+    requires { ⌜ (length (now used) ≤ 1024) × (from ≤ length (now used)) ⌝ }
+    ensures { λ a. ⌜ a ≡ freeFrom (now (used .entry)) from ⌝ }
 {
-    let mut i = full_before(used);
+    let mut i = full_before(used, from);
     while i < used.len() {
         if !is_on(used, i) {
             return RecordNumber(i as u16 + 1);
@@ -84,7 +87,21 @@ fn chosen(used: &[u16]) -> RecordNumber
     RecordNumber(0)
 }
 
-// "make w r: the lowest free record becomes used, its maker is w + 1, register r holds it."
+// What a make takes, of any pool with these marks and this last made number: "the first free record above the last one made, else the lowest". No record is
+// looked at twice: where none above is free, the lowest is one of the others.
+fn chosen(used: &[u16], last: u16) -> RecordNumber
+    requires { ⌜ (length (now used) ≤ 1024) × (last ≤ length (now used)) ⌝ }
+    ensures { λ a. ⌜ ((p : Pool) → p .records .used ≡ marks (now (used .entry)) → p .last .0 ≡ last → a ≡ chosenIn p) ⌝ }
+{
+    let to = wide(last);
+    let above = first_free(used, to);
+    if above.0 != 0 {
+        return above;
+    }
+    first_free(&used[..to], 0)
+}
+
+// "make w r: [the record that is chosen] becomes used, its maker is w + 1, register r holds it." "The pool remembers the last made number".
 pub fn makes(
     s: Sizes,
     used: &mut [u16],
@@ -99,13 +116,15 @@ pub fn makes(
     if !has_register(s, w, r) {
         return Answer::Refused(Refusal::NoSuch);
     }
-    let a = chosen(used);
+    let last = last_place(s);
+    let a = chosen(used, registers[last]);
     if a.0 == 0 {
         return Answer::Refused(Refusal::NoneFree);
     }
     let place = record_place(a);
     set_mark(used, place, true);
     makers[place] = w as u16 + 1;
+    registers[last] = a.0;
     let register = register_place(s, w as u16, r as u16);
     registers[register] = a.0;
     Answer::Made(a)

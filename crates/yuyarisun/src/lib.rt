@@ -96,7 +96,7 @@ fn one_event(
     number_of(answer)
 }
 
-// make: the lowest free record becomes used, and the register holds it. The value is its number.
+// make: the first free record above the last one made, else the lowest, becomes used, and the register holds it. The value is its number.
 #[no_mangle]
 pub extern "C" fn yuyarisun_make(
     n: u16,

@@ -1,10 +1,13 @@
-//! What a set of traces covered: how they ended, how they were handed over, and where in a field a
-//! read ended.
+//! What a set of traces covered: how they ended, what their makes came upon, how they were handed
+//! over, and where in a field a read ended.
 
 use std::fmt;
+use std::str;
 
+use second::pool::{Pool, Record};
 use second::replay::Ending;
-use second::trace::{well_formed, Kind};
+use second::tally::{makes, MAKES};
+use second::trace::{well_formed, Field, Kind};
 
 use crate::hand::{pieces, Way, ROOM};
 
@@ -32,6 +35,7 @@ pub struct Cover {
     whole: u64,
     refused: [u64; 13],
     answers: [u64; 13],
+    makes: [u64; MAKES.len()],
     by_pipe: u64,
     by_file: u64,
     by_pieces: u64,
@@ -54,7 +58,14 @@ impl Cover {
             }
             _ => self.whole += 1,
         }
-        let events = self.lines(printed);
+        let mut events = 0;
+        for (number, _) in answers(printed) {
+            events += 1;
+            self.answers[number] += 1;
+        }
+        if events > 0 {
+            count_makes(trace, printed, &mut self.makes);
+        }
         self.long += u64::from(events >= LONG);
         self.most_events = self.most_events.max(events);
         self.most_bytes = self.most_bytes.max(trace.len());
@@ -74,26 +85,12 @@ impl Cover {
         }
     }
 
-    /// The answers in the lines of the events; how many there are.
-    fn lines(&mut self, printed: &[u8]) -> usize {
-        let mut events = 0;
-        for line in printed.split(|byte| *byte == b'\n') {
-            let mut words = line.split(|byte| *byte == b' ');
-            if words.next().is_some_and(|step| step.first().is_some_and(u8::is_ascii_digit)) {
-                events += 1;
-                if let Some(&[digit]) = words.next() {
-                    self.answers[usize::from(digit - b'0')] += 1;
-                }
-            }
-        }
-        events
-    }
-
     /// What both covered.
     pub fn and(mut self, other: Cover) -> Cover {
         self.whole += other.whole;
         add(&mut self.refused, &other.refused);
         add(&mut self.answers, &other.answers);
+        add(&mut self.makes, &other.makes);
         self.by_pipe += other.by_pipe;
         self.by_file += other.by_file;
         self.by_pieces += other.by_pieces;
@@ -121,6 +118,9 @@ impl Cover {
         for number in ANSWERS {
             ask(format!("an event answered {number}"), self.answers[number]);
         }
+        for (what, times) in MAKES.into_iter().zip(self.makes) {
+            ask(what.into(), times);
+        }
         let ways = [self.by_pipe, self.by_file, self.by_pieces];
         for (way, times) in ["a pipe", "a file", "pieces"].into_iter().zip(ways) {
             ask(format!("a trace by {way}"), times);
@@ -140,6 +140,33 @@ impl Cover {
 fn add(sums: &mut [u64], others: &[u64]) {
     for (sum, other) in sums.iter_mut().zip(others) {
         *sum += other;
+    }
+}
+
+/// The answer number and the value in the line of each event.
+fn answers(printed: &[u8]) -> impl Iterator<Item = (usize, u16)> + '_ {
+    printed.split(|byte| *byte == b'\n').filter_map(|line| {
+        let mut words = str::from_utf8(line).ok()?.split(' ');
+        let _step: u32 = words.next()?.parse().ok()?;
+        Some((words.next()?.parse().ok()?, words.next()?.parse().ok()?))
+    })
+}
+
+/// What the makes of a trace whose sizes are taken came upon, by its lines: used are the makes
+/// answered with 0 less the records freed.
+fn count_makes(trace: &[u8], printed: &[u8], times: &mut [u64]) {
+    let Some(Field::Sizes(sizes)) = well_formed(trace) else { return };
+    let mut pool = Pool::fresh(sizes);
+    for ((_, kind), (number, value)) in fields(trace).skip(1).zip(answers(printed)) {
+        match (kind, number) {
+            (Kind::Make, 0) => {
+                add(times, &makes(&pool).map(u64::from));
+                pool.used.insert(Record(value));
+                pool.last_made = Some(Record(value));
+            }
+            (Kind::Collect, _) => drop(pool.used.remove(&Record(value))),
+            _ => {}
+        }
     }
 }
 
@@ -198,6 +225,10 @@ impl fmt::Display for Cover {
         };
         writeln!(out, "how often each answer number was given:{}", numbered(&ANSWERS, &self.answers))?;
         writeln!(out, "how often a trace was refused with it:{}", numbered(&REFUSALS, &self.refused))?;
+        writeln!(out, "how often a make came upon this:")?;
+        for (times, what) in self.makes.iter().zip(MAKES) {
+            writeln!(out, "{times:>10}  {what}")?;
+        }
         writeln!(
             out,
             "handed over: {} by a pipe, {} by a file, {} in {} pieces",
@@ -240,6 +271,33 @@ mod tests {
         let all = rows
             .flat_map(|(row, kind)| (0..).zip(row).map(move |(bytes, times)| (kind.name(), bytes, *times)));
         all.filter(|(_, _, times)| *times > 0).collect()
+    }
+
+    #[test]
+    fn makes_are_told_apart_by_their_lines() {
+        let cycle = "times 6 collect";
+        let trace = [
+            "sizes 2 1 1 2",
+            "make 0 0", // 1
+            "drop 0 0",
+            cycle,      // frees 1
+            "make 0 0", // 2: it and the last made are free
+            "drop 0 0",
+            cycle,      // frees 2
+            "make 0 0", // 1: it, below the last made, and that are free
+            "make 0 1", // 2
+            "make 0 1", // none is free
+            "drop 0 1",
+            cycle,      // frees 2
+            "make 0 1", // 2, the last made, alone is free
+            "end",
+        ];
+        let trace = trace::text::write(&trace.join("\n")).unwrap();
+        let mut printed = Vec::new();
+        second::replay::replay(&trace, &mut printed, None).unwrap();
+        let mut times = [0; MAKES.len()];
+        count_makes(&trace, &printed, &mut times);
+        assert_eq!(times, [0, 1, 1, 1, 1]);
     }
 
     #[test]

@@ -1,11 +1,11 @@
-//! Document 01 and the tender held to their word, after every event of a run from a fresh pool.
+//! Documents 01 and 02 and the tender held to their word, after every event of a run from a fresh pool.
 //!
 //! A check looks at the pool before and after an event and at the answer, never at how the rules
 //! came from one to the other.
 
 use std::collections::{BTreeMap, BTreeSet};
 
-use crate::event::{Answer, Event};
+use crate::event::{Answer, Event, NO_SUCH};
 use crate::pool::{Link, Pool, Record};
 use crate::reach::{left_to_loops, lost, reached, two_workers_share};
 use crate::sound::{sound, tallies_are_the_counts};
@@ -26,6 +26,8 @@ pub struct Check<'a> {
     last_seen: BTreeMap<Link, Record>,
     /// The makes answered with 0 less the records freed.
     made_and_not_freed: BTreeSet<Record>,
+    /// What the last make answered with 0 has made; 0 before the first.
+    last_made: u16,
     cycle: Option<Cycle>,
 }
 
@@ -65,7 +67,13 @@ fn hold(holds: bool, sentence: impl FnOnce() -> String) -> Result<(), String> {
 
 impl<'a> Check<'a> {
     pub fn new(tally: &'a mut Tally) -> Check<'a> {
-        Check { tally, last_seen: BTreeMap::new(), made_and_not_freed: BTreeSet::new(), cycle: None }
+        Check {
+            tally,
+            last_seen: BTreeMap::new(),
+            made_and_not_freed: BTreeSet::new(),
+            last_made: 0,
+            cycle: None,
+        }
     }
 
     /// A fresh pool is sound.
@@ -80,6 +88,7 @@ impl<'a> Check<'a> {
         refused_changes_nothing(&moment)?;
         freed_is_out_of_reach(&moment)?;
         sound(after)?;
+        self.made_is_the_next_free(&moment)?;
         self.used_are_made_less_freed(&moment)?;
         self.remember_last_seen(&moment);
         self.opening(&moment);
@@ -87,6 +96,23 @@ impl<'a> Check<'a> {
         self.cycle_is_short(&moment)?;
         self.lost_is_freed(&moment)?;
         self.counts_at_the_close(&moment)
+    }
+
+    /// "A make now takes the first free record above the last one made, else the lowest" (document 02,
+    /// request 1): of the records from the last made on, round to it again, the first that is free. "5:
+    /// make, and no record is free."
+    fn made_is_the_next_free(&mut self, moment: &Moment) -> Result<(), String> {
+        let Answer { number, value } = moment.answer;
+        if !matches!(moment.event, Event::Make { .. }) || number == NO_SUCH {
+            return Ok(());
+        }
+        let n = moment.before.sizes.n;
+        let mut round = (0..n).map(|further| Record((self.last_made + further) % n + 1));
+        let next = round.find(|record| moment.before.is_free(record));
+        self.last_made = next.map_or(self.last_made, |record| record.0);
+        hold(value == next && (number == 0) == next.is_some(), || {
+            format!("a make is answered {number} with {value:?}, and the next free record is {next:?}")
+        })
     }
 
     /// "From a fresh pool the used records are the makes answered with 0 less the records freed."

@@ -87,7 +87,7 @@ fn goes_through_none(pool: &Pool, event: Event) -> bool {
 
 /// "5: make, and no record is free."
 fn makes_without_a_free_record(pool: &Pool, event: Event) -> bool {
-    matches!(event, Event::Make { .. }) && pool.lowest_free().is_none()
+    matches!(event, Event::Make { .. }) && pool.free_records() == 0
 }
 
 /// "6: store that must log, and the worker's log has S entries."

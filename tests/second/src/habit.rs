@@ -126,7 +126,7 @@ impl Hand<'_> {
     }
 
     fn make_or_wait(&mut self) -> Vec<Event> {
-        if self.pool.lowest_free().is_none() {
+        if self.pool.free_records() == 0 {
             return Vec::new();
         }
         let r = self.register();

@@ -1,5 +1,6 @@
-//! Document 01 a second time, in maps, sets and vectors: one function for one sentence, written
-//! from the document and from nothing else, so that the proved program can be compared with it.
+//! Document 01 a second time, with the requests of document 02 that have landed, in maps, sets and
+//! vectors: one function for one sentence, written from the documents and from nothing else, so that
+//! the proved program can be compared with it.
 //!
 //! The rules
 //! - `pool`       what a pool consists of, and a fresh one

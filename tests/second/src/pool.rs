@@ -1,4 +1,4 @@
-//! What a pool consists of: the section "Sizes" of document 01.
+//! What a pool consists of: the section "Sizes" of document 01, and document 02's last made number.
 
 use std::collections::{BTreeMap, BTreeSet};
 
@@ -72,6 +72,8 @@ pub struct Pool {
     pub values: BTreeMap<Link, Record>,
     pub changed: BTreeSet<Link>,
     pub workers: Vec<Worker>,
+    /// "The pool remembers the last made number" (document 02, request 1).
+    pub last_made: Option<Record>,
     pub history: Vec<Entry>,
     pub phase: u8,
     pub position: usize,
@@ -79,7 +81,8 @@ pub struct Pool {
 }
 
 impl Pool {
-    /// "A fresh pool has every number 0, every record free, every list empty, phase 0."
+    /// "A fresh pool has every number 0, every record free, every list empty, phase 0." The last made
+    /// number is "0 when fresh".
     pub fn fresh(sizes: Sizes) -> Pool {
         let worker = Worker { registers: vec![None; usize::from(sizes.r)], snoops: false, log: Vec::new() };
         Pool {
@@ -92,6 +95,7 @@ impl Pool {
             values: BTreeMap::new(),
             changed: BTreeSet::new(),
             workers: vec![worker; usize::from(sizes.w)],
+            last_made: None,
             history: Vec::new(),
             phase: 0,
             position: 0,
@@ -115,8 +119,8 @@ impl Pool {
         self.counts.get(&record).copied().unwrap_or(0)
     }
 
-    pub fn lowest_free(&self) -> Option<Record> {
-        self.sizes.records().find(|record| !self.used.contains(record))
+    pub fn is_free(&self, record: &Record) -> bool {
+        !self.used.contains(record)
     }
 
     pub fn free_records(&self) -> usize {

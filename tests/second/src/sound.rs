@@ -1,5 +1,5 @@
-//! "A sound pool" of document 01, clause by clause, by code of its own: nothing of the rules is
-//! used, so that a wrong rule is seen here.
+//! "A sound pool" of document 01, and what document 02 adds to it, clause by clause, by code of its
+//! own: nothing of the rules is used, so that a wrong rule is seen here.
 //!
 //! Held by the types: "marks and flags 0 or 1" are sets and `bool`s, "0 in every entry past a
 //! list's length" has no place in a vector.
@@ -17,9 +17,10 @@ pub const LIST_LENGTHS: &str = "list lengths at most S";
 pub const HISTORY_WITHOUT_REPEATS: &str = "no link twice in the history";
 pub const MARKS_AND_ENTRIES: &str = "a marked link stands exactly once among the entries, another nowhere";
 pub const COUNTS: &str = "each record's count is the number of links counted for it";
+pub const LAST_MADE: &str = "the last made number 0..N";
 
-/// All of these, in the document's order.
-pub const CLAUSES: [&str; 9] = [
+/// All of these, in the documents' order.
+pub const CLAUSES: [&str; 10] = [
     PHASE_AND_POSITION,
     HISTORY_BY_PHASE,
     RECORD_NUMBERS,
@@ -29,9 +30,10 @@ pub const CLAUSES: [&str; 9] = [
     HISTORY_WITHOUT_REPEATS,
     MARKS_AND_ENTRIES,
     COUNTS,
+    LAST_MADE,
 ];
 
-/// The clauses that do not hold, in words, in the document's order.
+/// The clauses that do not hold, in words, in the documents' order.
 pub fn broken(pool: &Pool) -> Vec<&'static str> {
     let holds = [
         phase_and_position(pool),
@@ -43,6 +45,7 @@ pub fn broken(pool: &Pool) -> Vec<&'static str> {
         history_without_repeats(pool),
         marks_and_entries(pool),
         counts(pool),
+        last_made(pool),
     ];
     CLAUSES.into_iter().zip(holds).filter(|(_, holds)| !holds).map(|(clause, _)| clause).collect()
 }
@@ -184,6 +187,11 @@ pub fn tallies_are_the_counts(pool: &Pool, values: impl Iterator<Item = Record>)
     pool.sizes.records().all(|record| tally(&record) == pool.counts.get(&record).copied().unwrap_or(0))
 }
 
+/// "The pool remembers the last made number (.. 0..N in a sound pool)" (document 02, request 1).
+fn last_made(pool: &Pool) -> bool {
+    pool.last_made.is_none_or(|record| (1..=pool.sizes.n).contains(&record.0))
+}
+
 #[cfg(test)]
 mod tests {
     use super::*;
@@ -207,7 +215,7 @@ mod tests {
     fn each_clause_can_fail() {
         let link = Link { of: Record(1), f: 0 };
         type Break = (&'static str, fn(&mut Pool, Link));
-        let breaks: [Break; 10] = [
+        let breaks: [Break; 11] = [
             ("phase 0..6", |pool, _| pool.phase = 7),
             ("phase 0..6", |pool, _| pool.position = 1),
             ("history empty in 0, 1, 6", |pool, _| pool.phase = 1),
@@ -218,6 +226,7 @@ mod tests {
             ("list lengths", |pool, link| pool.workers[0].log = vec![Entry { link, old: None }; 3]),
             ("a marked link", |pool, _| pool.changed.clear()),
             ("each record's count", |pool, _| pool.counts.extend([(Record(2), 1)])),
+            ("the last made number", |pool, _| pool.last_made = Some(Record(3))),
         ];
         for (clause, broken) in breaks {
             let mut pool = amid_a_cycle();

@@ -1,6 +1,7 @@
 //! What a set of traces reached: how often each answer number, each phase, each event in each
 //! phase, each kind of damage and each of the situations that the rules are about.
 
+use std::cmp::Ordering;
 use std::collections::{BTreeMap, BTreeSet};
 use std::fmt;
 
@@ -17,6 +18,30 @@ const UNREACHED: [(usize, &str); 2] = [
     (2, "not from a trace: it starts fresh, every event leaves a sound pool, none is checked again"),
     (6, "not on a sound pool: a link that must be logged stands in no log, so each has fewer than S entries"),
 ];
+
+/// What a make comes upon, of the records above the last made, below it, and that record itself.
+pub const MAKES: [&str; 5] = [
+    "make: a record above the last made is free, and one below it",
+    "make: a record above the last made is free, and the last made itself",
+    "make: none above the last made is free, one below it is",
+    "make: none above the last made is free, one below it is, and the last made itself",
+    "make: of several records only the last made itself is free",
+];
+
+/// Which of these hold of a pool.
+pub fn makes(before: &Pool) -> [bool; MAKES.len()] {
+    let free = before.sizes.records().filter(|record| before.is_free(record));
+    let sides: BTreeSet<Ordering> = free.map(|record| Some(record).cmp(&before.last_made)).collect();
+    let [below, itself, above] =
+        [Ordering::Less, Ordering::Equal, Ordering::Greater].map(|side| sides.contains(&side));
+    [
+        above && below,
+        above && itself,
+        !above && below,
+        !above && below && itself,
+        !above && !below && itself && before.sizes.n > 1,
+    ]
+}
 
 /// Situations that the rules are about and an answer number does not show.
 const SITUATIONS: [&str; 9] = [
@@ -43,6 +68,7 @@ pub struct Tally {
     /// Events answered with 0, by kind and by the phase they came in.
     done: [[u64; 7]; KINDS.len()],
     damages: BTreeMap<&'static str, u64>,
+    makes: [u64; MAKES.len()],
     situations: [u64; SITUATIONS.len()],
     shared: u64,
     last_maker: BTreeMap<Record, u8>,
@@ -62,7 +88,7 @@ impl Tally {
         match event {
             Event::Store { w, q, f, r } => self.store(before, [w, q, f, r]),
             Event::Collect => self.collector_step(before),
-            Event::Make { w, .. } => self.make(w, answer.value),
+            Event::Make { w, .. } => self.make(before, w, answer.value),
             _ => {}
         }
     }
@@ -100,10 +126,13 @@ impl Tally {
         }
     }
 
-    fn make(&mut self, w: u8, made: Option<Record>) {
+    fn make(&mut self, before: &Pool, w: u8, made: Option<Record>) {
+        for (times, came) in self.makes.iter_mut().zip(makes(before)) {
+            *times += u64::from(came);
+        }
         let Some(record) = made else { return };
-        let before = self.last_maker.insert(record, w);
-        self.situations[8] += u64::from(before.is_some_and(|maker| maker != w));
+        let maker_before = self.last_maker.insert(record, w);
+        self.situations[8] += u64::from(maker_before.is_some_and(|maker| maker != w));
     }
 
     /// The opening of a cycle: what was lost, and which of it is left to loops.
@@ -125,6 +154,12 @@ impl Tally {
         if let Some(damage) = damage {
             *self.damages.entry(damage.name()).or_insert(0) += 1;
         }
+    }
+
+    /// How often each situation came up.
+    fn came_up(&self) -> impl Iterator<Item = (u64, &'static str)> + '_ {
+        let makes = self.makes.iter().copied().zip(MAKES);
+        makes.chain(self.situations.iter().copied().zip(SITUATIONS))
     }
 
     /// What should have been reached and was not, and what was reached and cannot be.
@@ -149,8 +184,8 @@ impl Tally {
             let times = self.damages.get(damage.name()).copied().unwrap_or(0);
             judge(format!("damage: {}", damage.name()), times, true);
         }
-        for (times, situation) in self.situations.iter().zip(SITUATIONS) {
-            judge(situation.into(), *times, true);
+        for (times, situation) in self.came_up() {
+            judge(situation.into(), times, true);
         }
         judge(SHARED.into(), self.shared, false);
         faults
@@ -179,7 +214,7 @@ impl fmt::Display for Tally {
             writeln!(out, "{times:>10}  {name}")?;
         }
         writeln!(out, "how often each situation came up:")?;
-        for (times, situation) in self.situations.iter().zip(SITUATIONS) {
+        for (times, situation) in self.came_up() {
             writeln!(out, "{times:>10}  {situation}")?;
         }
         writeln!(out, "{:>10}  {SHARED}", self.shared)

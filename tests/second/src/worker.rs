@@ -1,16 +1,29 @@
-//! "Worker events" of document 01. Each is called only where `event` refuses nothing, and gives
-//! back the value of its answer.
+//! "Worker events" of document 01, with document 02's choice of the record that is made. Each is
+//! called only where `event` refuses nothing, and gives back the value of its answer.
 
 use crate::pool::{Entry, Link, Pool, Record};
 
-/// "make w r: the lowest free record becomes used, its maker is w + 1, register r holds it.
-/// Nothing else of it is touched. Answer: its number."
+/// "make w r: [the record that it takes] becomes used, its maker is w + 1, register r holds it.
+/// Nothing else of it is touched. Answer: its number." "The pool remembers the last made number"
+/// (document 02, request 1).
 pub fn make(pool: &mut Pool, w: usize, r: usize) -> Option<Record> {
-    let record = pool.lowest_free()?;
+    let record = first_above_the_last_made(pool).or_else(|| lowest_free(pool))?;
     pool.used.insert(record);
     pool.makers.insert(record, w);
     pool.workers[w].registers[r] = Some(record);
+    pool.last_made = Some(record);
     Some(record)
+}
+
+/// "A make now takes the first free record above the last one made, else .." (document 02, request
+/// 1). Every record is above none.
+fn first_above_the_last_made(pool: &Pool) -> Option<Record> {
+    pool.sizes.records().filter(|record| Some(*record) > pool.last_made).find(|record| pool.is_free(record))
+}
+
+/// ".. the lowest."
+fn lowest_free(pool: &Pool) -> Option<Record> {
+    pool.sizes.records().find(|record| pool.is_free(record))
 }
 
 /// "move w r q: register r takes what q holds. Answer: that value."

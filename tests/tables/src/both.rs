@@ -6,7 +6,7 @@ use second::pool::{Pool, Record};
 use yuyarisun::{Answer, Lent, Refusal, Tables};
 
 use crate::lie::{each, sizes_of, written, TABLES};
-use crate::reached::Reached;
+use crate::reached::{Reached, Upon};
 
 pub const FREED: &str = "collect: a record is freed";
 pub const GOES_ON_AT_0: &str = "collect: the closed-cycle number goes on at 0 after 65,535";
@@ -94,7 +94,7 @@ impl Both {
     /// One event on all three: the number, the value and every table entry are the same.
     pub fn event(&mut self, event: Event, reached: &mut Reached) -> Result<(), String> {
         let told = |sentence| format!("{event:?}: {sentence}");
-        let (phase, closed) = (self.second.phase, self.second.closed);
+        let (upon, closed) = (Upon::of(&self.second, event), self.second.closed);
         let expected = happen(&mut self.second, event);
         let (number, value) = (expected.number, expected.value);
         let expected = answer_of(expected);
@@ -107,7 +107,7 @@ impl Both {
         self.same(&written(&self.second)).map_err(told)?;
         let free = [self.lent.free_records(), self.pool.free_records()];
         hold(free == [self.second.free_records(); 2], || told(format!("free records: {free:?}")))?;
-        reached.event(event, phase, number);
+        reached.event(event, upon, number);
         let s = self.second.sizes.s();
         let situations = [
             (event == Event::Collect && value.is_some(), FREED),

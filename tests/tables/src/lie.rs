@@ -64,6 +64,11 @@ fn place(record: Record) -> usize {
     usize::from(record.0) - 1
 }
 
+/// The last made number stands behind the registers.
+pub fn last_made_place(sizes: Sizes) -> usize {
+    usize::from(sizes.w) * usize::from(sizes.r)
+}
+
 fn write_entries(sizes: Sizes, entries: &[Entry], room: &mut [u16]) {
     for (entry, pair) in entries.iter().zip(room.chunks_exact_mut(2)) {
         pair.copy_from_slice(&[link_number(sizes, entry.link), number_of(entry.old)]);
@@ -92,6 +97,7 @@ pub fn written(pool: &Pool) -> Lent {
         t.lengths[w] = worker.log.len() as u16;
         write_entries(sizes, &worker.log, &mut t.logs[w * 2 * s..(w + 1) * 2 * s]);
     }
+    t.registers[last_made_place(sizes)] = number_of(pool.last_made);
     t.lengths[pool.workers.len()] = pool.history.len() as u16;
     write_entries(sizes, &pool.history, &mut t.history);
     let collector =
@@ -127,6 +133,7 @@ pub fn read(lent: &Lent) -> Pool {
         worker.snoops = t.snoops[w] != 0;
         worker.log = read_entries(sizes, &t.logs[w * 2 * s..(w + 1) * 2 * s], t.lengths[w]);
     }
+    pool.last_made = record_of(t.registers[last_made_place(sizes)]);
     pool.history = read_entries(sizes, &t.history, t.lengths[usize::from(sizes.w)]);
     pool.phase = u8::try_from(lent.collector.phase).unwrap_or(u8::MAX);
     pool.position = lent.collector.position.into();

@@ -114,6 +114,7 @@ impl Draft {
             worker.registers.iter_mut().for_each(|register| *register = any_record(sizes, holding, random));
             worker.log = log;
         }
+        pool.last_made = any_record(sizes, 80, random);
         pool.history = self.history;
         pool.phase = self.phase;
         pool.position = self.position;

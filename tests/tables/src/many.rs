@@ -11,7 +11,7 @@ use yuyarisun::{Lent, Stop};
 use crate::both::{answer_of, event_of, hold, same};
 use crate::lie::{sizes_in, sizes_of, written};
 use crate::made::Draft;
-use crate::reached::{Reached, AT_THE_LARGEST};
+use crate::reached::{Reached, Upon, AT_THE_LARGEST};
 use crate::room;
 use crate::runs::{any_event, choose_sizes};
 
@@ -66,9 +66,9 @@ fn done(pool: &mut Pool, bytes: &[u8], step: u32, reached: &mut Reached) -> Expe
 
 /// One event by the second program.
 pub fn one(pool: &mut Pool, event: Event, reached: &mut Reached) -> Answer {
-    let phase = pool.phase;
+    let upon = Upon::of(pool, event);
     let answer = happen(pool, event);
-    reached.event(event, phase, answer.number);
+    reached.event(event, upon, answer.number);
     answer
 }
 

@@ -3,7 +3,8 @@
 use std::collections::BTreeMap;
 
 use second::event::Event;
-use second::pool::Sizes;
+use second::pool::{Pool, Sizes};
+use second::tally::{makes, MAKES};
 
 use crate::runs::LARGEST;
 
@@ -33,6 +34,20 @@ fn numbers(kind: &str) -> &'static [u8] {
     }
 }
 
+/// What an event comes upon, before it is done.
+pub struct Upon {
+    phase: u8,
+    /// Of a make, which of `MAKES`.
+    makes: Option<[bool; MAKES.len()]>,
+}
+
+impl Upon {
+    pub fn of(pool: &Pool, event: Event) -> Upon {
+        let makes = matches!(event, Event::Make { .. }).then(|| makes(pool));
+        Upon { phase: pool.phase, makes }
+    }
+}
+
 /// A part of the comparison, with how often each thing was reached in it.
 #[derive(Default)]
 pub struct Reached {
@@ -45,8 +60,12 @@ pub struct Reached {
 }
 
 impl Reached {
-    pub fn event(&mut self, event: Event, phase: u8, number: u8) {
-        *self.events.entry((kind(event), phase, number)).or_insert(0) += 1;
+    pub fn event(&mut self, event: Event, upon: Upon, number: u8) {
+        *self.events.entry((kind(event), upon.phase, number)).or_insert(0) += 1;
+        if let (0, Some(came)) = (number, upon.makes) {
+            let words = MAKES.into_iter().zip(came).filter(|(_, came)| *came).map(|(words, _)| words);
+            words.for_each(|words| self.situation(words));
+        }
     }
 
     pub fn situation(&mut self, words: &str) {
@@ -67,8 +86,8 @@ impl Reached {
         self.events.values().sum::<u64>() + self.refused
     }
 
-    /// Each kind in each phase with each of its numbers has to have come, and no other; so have the
-    /// situations.
+    /// Each kind in each phase with each of its numbers has to have come, and no other, and a make
+    /// upon each of `MAKES`; so have the situations.
     pub fn faults(&self, every_event: bool, situations: &[String]) -> Vec<String> {
         let mut faults = Vec::new();
         for kind in KINDS.into_iter().filter(|_| every_event) {
@@ -85,8 +104,11 @@ impl Reached {
                 faults.push(format!("reached: {kind} in phase {phase} answered {number}"));
             }
         }
-        for words in situations.iter().filter(|words| !self.situations.contains_key(*words)) {
-            faults.push(format!("never reached: {words}"));
+        let upon = MAKES.into_iter().filter(|_| every_event);
+        for words in situations.iter().map(String::as_str).chain(upon) {
+            if !self.situations.contains_key(words) {
+                faults.push(format!("never reached: {words}"));
+            }
         }
         faults
     }

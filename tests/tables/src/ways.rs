@@ -7,7 +7,7 @@ use second::sound::*;
 use yuyarisun::{Lent, Pool as Owned, Refusal};
 
 use crate::both::{event_of, hold, same};
-use crate::lie::{broken, sizes_in, written, MARKS, ZEROS};
+use crate::lie::{broken, last_made_place, sizes_in, written, MARKS, ZEROS};
 use crate::made::{any_link, any_record, count_anew, uncleared, Draft};
 use crate::many;
 use crate::reached::{kind, Reached, AT_THE_LARGEST};
@@ -68,6 +68,7 @@ pub const WAYS: &[Way] = &[
     way(&[COUNTS], "a count that is one too high", |random| other_count(|count, _| count.checked_add(1), random)),
     way(&[COUNTS], "a count that is one too low", |random| other_count(|count, _| count.checked_sub(1), random)),
     way(&[COUNTS], "any other count", |random| other_count(|_, random| Some(random.number() as u16), random)),
+    way(&[LAST_MADE], "a last made number above N", last_made_above_n),
 ];
 
 fn alone(clause: &str) -> String {
@@ -191,7 +192,14 @@ fn history_empty(random: &mut Random) -> Option<Lent> {
 
 fn register_above_n(random: &mut Random) -> Option<Lent> {
     let mut lent = written(&sound_pool(random));
-    let at = random.below(lent.tables.registers.len());
+    let at = random.below(last_made_place(sizes_in(&lent)));
+    lent.tables.registers[at] = above(lent.sizes.n, random);
+    Some(lent)
+}
+
+fn last_made_above_n(random: &mut Random) -> Option<Lent> {
+    let mut lent = written(&sound_pool(random));
+    let at = last_made_place(sizes_in(&lent));
     lent.tables.registers[at] = above(lent.sizes.n, random);
     Some(lent)
 }

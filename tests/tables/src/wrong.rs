@@ -76,7 +76,7 @@ fn wrong_size(random: &mut Random) -> (Lent, String) {
             tables.changed.resize(s, 0);
             tables.history.resize(2 * s % 65_536, 0);
             tables.logs.resize(wrapped(sizes.w, (2 * s) as u16), 0);
-            tables.registers.resize(wrapped(sizes.w, sizes.r), 0);
+            tables.registers.resize((wrapped(sizes.w, sizes.r) + 1) % 65_536, 0);
             lent.tables = tables;
         }
     }

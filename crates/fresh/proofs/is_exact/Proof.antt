@@ -37,6 +37,9 @@ cast-places-2 c = search needs
 mul-places : tie.Need-mul-places
 mul-places c = let at = c .before .before .before .before .before .before .args .s in omega (arith, product (at .w) (at .r) 65535 (omega arith) (omega arith))
 
+add-result : tie.Need-add-result
+add-result c = let at = c .before .before .before .before .before .before .args .s in omega (arith, product (at .w) (at .r) 65535 (omega arith) (omega arith))
+
 mul-result : tie.Need-mul-result
 mul-result c = let at = c .before .before .before .before .before .before .args .s in omega (arith, product (at .n) (at .k) 65535 (omega arith) (omega arith))
 
@@ -49,8 +52,8 @@ mul-result-2 c =
 mul-result-3 : tie.Need-mul-result-3
 mul-result-3 c = mul-result c
 
-add-result : tie.Need-add-result
-add-result c = search needs
+add-result-2 : tie.Need-add-result-2
+add-result-2 c = search needs
 
 returns : tie.Need-returns
 unfolding isExact links
@@ -68,8 +71,9 @@ is-exact-spec =
     cast-places
     cast-places-2
     mul-places
+    add-result
     mul-result
     mul-result-2
     mul-result-3
-    add-result
+    add-result-2
     returns)

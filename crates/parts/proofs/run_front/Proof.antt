@@ -75,6 +75,9 @@ cast-all c = search needs
 mul-all : tie.Need-mul-all
 mul-all c = let start = fromSizes c in omega (arith, registers-few (start .args .s) (start .pre .1 .0))
 
+add-all : tie.Need-add-all
+add-all c = let start = fromSizes c in omega (arith, registers-few (start .args .s) (start .pre .1 .0))
+
 mul-room : tie.Need-mul-room
 unfolding links
 mul-room c = let start = fromSizes c in omega (arith, links-few (start .args .s) (start .pre .1 .0))
@@ -136,7 +139,7 @@ slice-relend-prefix-run-events-8 : tie.Need-slice-relend-prefix-run-events-8
 slice-relend-prefix-run-events-8 c = inside (fromSizes (c .before .before .before .before .before .before .before)) .registers
 
 slice-aggregate-run-events-8 : tie.Need-slice-aggregate-run-events-8
-slice-aggregate-run-events-8 c = let start = fromSizes (c .before .before .before .before .before .before .before .before) in counted (start .args .s .w * start .args .s .r) (start .args .registers .now) (inside start .registers)
+slice-aggregate-run-events-8 c = let start = fromSizes (c .before .before .before .before .before .before .before .before) in counted (start .args .s .w * start .args .s .r + 1) (start .args .registers .now) (inside start .registers)
 
 slice-relend-prefix-run-events-9 : tie.Need-slice-relend-prefix-run-events-9
 slice-relend-prefix-run-events-9 c = inside (fromSizes (c .before .before .before .before .before .before .before .before)) .snoops
@@ -227,6 +230,7 @@ run-front-spec =
     mul-links
     cast-all
     mul-all
+    add-all
     mul-room
     mul-rooms
     add-lists

@@ -1,4 +1,4 @@
--- `worker::full_before` meets its contract. The loop's invariant: the search from the first mark on is the search from the present one on. Assumes nothing.
+-- `worker::full_before` meets its contract. The loop's invariant: the search from the given mark on is the search from the present one on. Assumes nothing.
 use Prim.Native.Nat.{_-_, _≤_}
 use mathlib.Core.Path.{_≡_, refl, sym, _∙_}
 use native.Mathlib.Omega.{arith}
@@ -10,10 +10,10 @@ use Rattle.worker.proofs.full_before.Statement.{statement}
 use Rattle.worker.proofs.full_before.Tie as tie
 
 abbrev Inv-loop : tie.InvT-loop
-Inv-loop used i₀ i = (i ≤ length used) × (freeFrom used 0 ≡ freeFrom used i)
+Inv-loop used from i₀ i = (i ≤ length used) × (freeFrom used from ≡ freeFrom used i)
 
 abbrev μ-loop : tie.MeasureT-loop
-μ-loop used i₀ i = length used - i
+μ-loop used from i₀ i = length used - i
 
 loop-holds : tie.Need-loop-holds Inv-loop μ-loop
 loop-holds c = (omega arith, refl)

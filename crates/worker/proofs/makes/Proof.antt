@@ -1,24 +1,34 @@
 -- `worker::makes` meets its contract: it is `make-no-such`, `make-none-free` or `made`. Assumes nothing.
-use Prim.Native.Nat.{ℕ, _+_, _-_, _*_}
+use Prim.Native.Nat.{ℕ, _+_, _-_, _*_, _<_}
 use mathlib.Core.Path.{_≡_, sym, ap, _∙_}
 use mathlib.Core.Bool.{true, _&&_}
 use native.Mathlib.Omega.{arith}
 use borrow.Author.Tests.{not-true, not-false}
 use denote.Ref.{at-last}
-use lib.ListN.{set}
+use lib.ListN.{length, set, length-set}
 use Rattle.rules.specs.declared.RecordNumber.{RecordNumber}
 use Rattle.rules.specs.declared.Answer.the-variants.{Made}
+use Rattle.rules.specs.declared.Collector.{Collector}
 use Rattle.rules.specs.Worker.{chosen}
 use Rattle.rules.specs.Outcome.{hasWorker, hasRegister}
+use Rattle.tables.specs.Tables.{Tables}
 use Rattle.tables.specs.Lie.{poolOf}
+use Rattle.tables.specs.Known.{Known}
 use Rattle.laws.proofs.Number.{bounds}
 use Rattle.laws.proofs.Refusals.{register-there}
 use Rattle.worker.specs.Lent.{makesOn}
 use Rattle.worker.proofs.Refused.{make-no-such, make-none-free}
-use Rattle.worker.proofs.Events.{chosen-inside, made}
+use Rattle.worker.proofs.Events.{marks-stand, last-stands, last-low, chosen-inside, made}
 use borrow.Author.Needs.{needs}
 use Rattle.worker.proofs.makes.Statement.{statement}
 use Rattle.worker.proofs.makes.Tie as tie
+
+-- from the search back
+abbrev tested : tie.After-chosen → tie.Else1
+tested c = c .before .before .before .before
+
+abbrev start : tie.After-chosen → tie.Start
+start c = tested c .before .before .before .before .before
 
 -- the test that worker and register are there
 there : (c : tie.Else1) → let at = c .before .before .before .before .before .args in (hasWorker (at .s) (at .w) && hasRegister (at .s) (at .r)) ≡ true
@@ -32,35 +42,55 @@ returns c t k known =
     let at = c .before .before .before .before .before .args in
     make-no-such known (at .w) (at .r) (sym (c .before .has-register .ensures) ∙ not-true _ (c .if1 .taken))
 
+last-place-requires : tie.Need-last-place-requires
+last-place-requires c κs = c .before .before .before .before .before .pre .2 .sizes
+
+mul-chosen : tie.Need-mul-chosen
+mul-chosen c = search needs
+
+slice-read-chosen : tie.Need-slice-read-chosen
+slice-read-chosen c =
+    let at = c .before .before in
+    omega (arith, at .last-place .ensures, at .before .before .before .before .before .before .pre .2 .exact .registers)
+
 chosen-requires : tie.Need-chosen-requires
 chosen-requires c κs =
-    let start = c .before .before .before .before .before .before in
+    let at = c .before .before in
+    let start = at .before .before .before .before .before .before in
     let known = start .pre .2 in
-    omega (arith, known .exact .used, bounds (start .args .s) (known .sizes) .n-most)
+    let most : length (start .args .used .now) ≡ start .args .s .n = known .exact .used in
+    (omega (arith, most, bounds (start .args .s) (known .sizes) .n-most), omega (arith, most, last-low known (at .last-place .result) (at .last-place .ensures)))
+
+-- what the search found, in every pool in whose tables those at hand lie
+picked : (c : tie.After-chosen) → let at = start c .args in
+    (t : Tables) (k : Collector) → Known (at .s) (makesOn (at .used) (at .makers) (at .registers) t) k
+    → chosen (poolOf (at .s) (makesOn (at .used) (at .makers) (at .registers) t) k) ≡ c .chosen .result
+picked c t k known =
+    let at = start c .args in
+    sym (c .chosen .ensures (poolOf (at .s) (makesOn (at .used) (at .makers) (at .registers) t) k) (marks-stand known)
+    (last-stands known (c .before .before .before .last-place .result) (c .before .before .before .last-place .ensures)))
 
 same-length : tie.Need-same-length
 same-length c = search needs
 
 returns-2 : tie.Need-returns-2
 returns-2 c t k known =
-    let tested = c .before .before .before .before in
-    let at = tested .before .before .before .before .before .args in
-    make-none-free known (at .w) (at .r) (there tested) (ap (λ (a : RecordNumber). a .0) (sym (c .before .before .chosen .ensures (at .s) (makesOn (at .used) (at .makers) (at .registers) t) k)) ∙ c .if2 .taken)
+    let found = c .before .before in
+    let at = start found .args in
+    make-none-free known (at .w) (at .r) (there (tested found)) (ap (λ (a : RecordNumber). a .0) (picked found t k known) ∙ c .if2 .taken)
 
 record-place-requires : tie.Need-record-place-requires
 record-place-requires c κs = search needs
 
+-- the record's place is one of the tables'
+inside : (c : tie.After-record-place) → c .record-place .result < start (c .before .before .before) .args .s .n
+inside c =
+    let found = c .before .before .before in
+    let some = start found .pre in
+    omega (arith, c .record-place .ensures, ap (λ (a : RecordNumber). a .0) (picked found (some .0) (some .1) (some .2)), chosen-inside (some .2))
+
 set-mark-requires : tie.Need-set-mark-requires
-set-mark-requires c κs =
-    let start = c .before .before .before .before .before .before .before .before .before .before .before in
-    let known = start .pre .2 in
-    omega (
-      arith,
-      c .before .record-place .ensures,
-      ap (λ (a : RecordNumber). a .0) (c .before .before .before .before .chosen .ensures (start .args .s) (makesOn (start .args .used) (start .args .makers) (start .args .registers) (start .pre .0)) (start .pre .1)),
-      chosen-inside known,
-      known .exact .used,
-    )
+set-mark-requires c κs = omega (arith, inside (c .before), start (c .before .before .before .before) .pre .2 .exact .used)
 
 add-makers : tie.Need-add-makers
 add-makers c = search needs
@@ -70,28 +100,32 @@ mul-makers c = search needs
 
 slice-write-makers : tie.Need-slice-write-makers
 slice-write-makers c =
-    let start = c .before .before .before .before .before .before .before .before .before .before .before .before .before .before in
-    let known = start .pre .2 in
-    omega (
-      arith,
-      c .before .before .before .before .record-place .ensures,
-      ap (λ (a : RecordNumber). a .0) (c .before .before .before .before .before .before .before .chosen .ensures (start .args .s) (makesOn (start .args .used) (start .args .makers) (start .args .registers) (start .pre .0)) (start .pre .1)),
-      chosen-inside known,
-      known .exact .makers,
-    )
-
-register-place-requires : tie.Need-register-place-requires
-register-place-requires c κs =
-    let tested = c .before .before .before .before .before .before .before .before .before in
-    let start = tested .before .before .before .before .before in
-    let at = register-there (start .args .s) (start .args .w) (start .args .r) (there tested) in
-    (start .pre .2 .sizes, at .worker, at .register)
+    let placed = c .before .before .before .before in
+    omega (arith, inside placed, start (placed .before .before .before) .pre .2 .exact .makers)
 
 mul-registers : tie.Need-mul-registers
 mul-registers c = search needs
 
 slice-write-registers : tie.Need-slice-write-registers
-slice-write-registers c = search needs
+slice-write-registers c =
+    let found = c .before .before .before .before .before .before .before in
+    omega (arith, found .before .before .before .last-place .ensures, start found .pre .2 .exact .registers)
+
+register-place-requires : tie.Need-register-place-requires
+register-place-requires c κs =
+    let found = c .before .before .before .before .before .before .before in
+    let at = start found .args in
+    let here = register-there (at .s) (at .w) (at .r) (there (tested found)) in
+    (start found .pre .2 .sizes, here .worker, here .register)
+
+mul-registers-2 : tie.Need-mul-registers-2
+mul-registers-2 c = search needs
+
+slice-write-registers-2 : tie.Need-slice-write-registers-2
+slice-write-registers-2 c =
+    let found = c .before .before .before .before .before .before .before .before in
+    let at = start found .args in
+    omega (arith, c .register-place .ensures .1, start found .pre .2 .exact .registers, length-set (at .registers .now) (found .before .before .before .last-place .result) (found .chosen .result .0))
 
 same-length-2 : tie.Need-same-length-2
 same-length-2 c = search needs
@@ -104,24 +138,24 @@ same-length-4 c = search needs
 
 returns-3 : tie.Need-returns-3
 returns-3 c t k known =
-    let tested = c .before .before .before .before .before .before .before .before .before .before in
-    let at = tested .before .before .before .before .before .args in
-    let a : chosen (poolOf (at .s) (makesOn (at .used) (at .makers) (at .registers) t) k) ≡ c .before .before .before .before .before .before .before .before .chosen .result =
-    sym (c .before .before .before .before .before .before .before .before .chosen .ensures (at .s) (makesOn (at .used) (at .makers) (at .registers) t) k) in
+    let found = c .before .before .before .before .before .before .before .before in
+    let at = start found .args in
+    let last = found .before .before .before .last-place in
+    let a = picked found t k known in
     let place = c .before .before .before .before .before .record-place in
-    made known (at .w) (at .r) (there tested) (omega (arith, ap (λ (x : RecordNumber). x .0) a))
+    made known (at .w) (at .r) (there (tested found)) (omega (arith, ap (λ (x : RecordNumber). x .0) a))
     ∙ ap (λ (x : RecordNumber). record {
       answer = Made x;
       collector = k;
-      tables = makesOn (at-last (at .used) (set (at .used .now) (x .0 - 1) 1)) (at-last (at .makers) (set (at .makers .now) (x .0 - 1) (at .w + 1))) (at-last (at .registers) (set (at .registers .now) (at .w * at .s .r + at .r) (x .0))) t;
+      tables = makesOn (at-last (at .used) (set (at .used .now) (x .0 - 1) 1)) (at-last (at .makers) (set (at .makers .now) (x .0 - 1) (at .w + 1))) (at-last (at .registers) (set (set (at .registers .now) (at .s .w * at .s .r) (x .0)) (at .w * at .s .r + at .r) (x .0))) t;
     }) a
     ∙ (λ j.
-    let x = c .before .before .before .before .before .before .before .before .chosen .result in
+    let x = found .chosen .result in
     let record-at : ℕ = sym (place .ensures) j in
     record {
       answer = Made x;
       collector = k;
-      tables = makesOn (at-last (at .used) ((ap (λ (i : ℕ). set (at .used .now) i 1) (sym (place .ensures)) ∙ sym (c .before .before .before .set-mark .ensures)) j)) (at-last (at .makers) (set (at .makers .now) record-at (at .w + 1))) (at-last (at .registers) (set (at .registers .now) (sym (c .register-place .ensures .0) j) (x .0))) t;
+      tables = makesOn (at-last (at .used) ((ap (λ (i : ℕ). set (at .used .now) i 1) (sym (place .ensures)) ∙ sym (c .before .before .before .set-mark .ensures)) j)) (at-last (at .makers) (set (at .makers .now) record-at (at .w + 1))) (at-last (at .registers) (set (set (at .registers .now) (sym (last .ensures) j) (x .0)) (sym (c .register-place .ensures .0) j) (x .0))) t;
     })
 
 pub makes-spec : {M : Type 1} → statement M
@@ -130,6 +164,9 @@ makes-spec =
     (tie.spec
     has-register-requires
     returns
+    last-place-requires
+    mul-chosen
+    slice-read-chosen
     chosen-requires
     same-length
     returns-2
@@ -138,9 +175,11 @@ makes-spec =
     add-makers
     mul-makers
     slice-write-makers
-    register-place-requires
     mul-registers
     slice-write-registers
+    register-place-requires
+    mul-registers-2
+    slice-write-registers-2
     same-length-2
     same-length-3
     same-length-4

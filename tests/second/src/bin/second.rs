@@ -1,5 +1,5 @@
 //! `second`            replays the trace on standard input
-//! `second --check`    the same, and holds every event to document 01 and the tender
+//! `second --check`    the same, and holds every event to the documents and the tender
 //! `second --row NAME MOST`
 //!                     turns the trace on standard input into a row that the proved rules compute;
 //!                     into nothing where it is refused or has more events than MOST
