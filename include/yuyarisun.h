@@ -30,12 +30,12 @@ extern "C" {
 
 /* ---- The numbers that a call answers ---- */
 
-/* An event's call asks for 1 first, then for 2, 3, 4, and then for 5 or 6. 7 to 12 are given where many events or a trace are read from bytes. */
+/* An event's call asks for 1 first, then for 2, 3, 13, 14, 4, and then for 5 or 6. 7 to 12 are given where many events or a trace are read from bytes. */
 enum yuyarisun_number {
     YUYARISUN_DONE = 0,
     YUYARISUN_WRONG_SIZE = 1,
     YUYARISUN_NOT_SOUND = 2,
-    YUYARISUN_NO_SUCH = 3,
+    YUYARISUN_NO_SUCH_WORKER = 3,
     YUYARISUN_HOLDS_NONE = 4,
     YUYARISUN_NONE_FREE = 5,
     YUYARISUN_LOG_FULL = 6,
@@ -44,7 +44,9 @@ enum yuyarisun_number {
     YUYARISUN_STOPS_SHORT = 9,
     YUYARISUN_WRONG_STEP = 10,
     YUYARISUN_EXTRA_BYTE = 11,
-    YUYARISUN_WRONG_COUNT = 12
+    YUYARISUN_WRONG_COUNT = 12,
+    YUYARISUN_NO_SUCH_REGISTER = 13,
+    YUYARISUN_NO_SUCH_LINK = 14
 };
 
 /* What a number says: a constant text, never null. */
@@ -54,7 +56,7 @@ static inline const char *yuyarisun_words(uint16_t number)
     case YUYARISUN_DONE: return "done";
     case YUYARISUN_WRONG_SIZE: return "a size is out of its range, or a lent table has another length";
     case YUYARISUN_NOT_SOUND: return "the pool is not sound";
-    case YUYARISUN_NO_SUCH: return "no such worker, register or link";
+    case YUYARISUN_NO_SUCH_WORKER: return "no such worker";
     case YUYARISUN_HOLDS_NONE: return "load or store through a register that holds none";
     case YUYARISUN_NONE_FREE: return "make, and no record is free";
     case YUYARISUN_LOG_FULL: return "store that must log, and the worker's log has S entries";
@@ -64,6 +66,8 @@ static inline const char *yuyarisun_words(uint16_t number)
     case YUYARISUN_WRONG_STEP: return "step number not the previous plus one";
     case YUYARISUN_EXTRA_BYTE: return "a byte after the end field";
     case YUYARISUN_WRONG_COUNT: return "end field's count is not the last step number";
+    case YUYARISUN_NO_SUCH_REGISTER: return "no such register";
+    case YUYARISUN_NO_SUCH_LINK: return "no such link";
     default: return "no number that a call answers";
     }
 }

@@ -21,12 +21,15 @@ static uint16_t largest[YUYARISUN_TOTAL_LENGTH(1024, 8, 8, 16)];
 /* The words of each number, and of none. */
 static int words(void)
 {
-    for (uint16_t number = 0; number <= 12; number++)
+    for (uint16_t number = 0; number <= 14; number++)
         for (uint16_t other = 0; other <= number; other++)
             HOLD((strcmp(yuyarisun_words(number), yuyarisun_words(other)) == 0) == (number == other));
     HOLD(strcmp(yuyarisun_words(YUYARISUN_DONE), "done") == 0);
     HOLD(strcmp(yuyarisun_words(YUYARISUN_WRONG_COUNT), "end field's count is not the last step number") == 0);
-    HOLD(strcmp(yuyarisun_words(13), yuyarisun_words(65535)) == 0);
+    HOLD(strcmp(yuyarisun_words(YUYARISUN_NO_SUCH_WORKER), "no such worker") == 0);
+    HOLD(strcmp(yuyarisun_words(YUYARISUN_NO_SUCH_REGISTER), "no such register") == 0);
+    HOLD(strcmp(yuyarisun_words(YUYARISUN_NO_SUCH_LINK), "no such link") == 0);
+    HOLD(strcmp(yuyarisun_words(15), yuyarisun_words(65535)) == 0);
     return 0;
 }
 
@@ -100,7 +103,8 @@ static int named(void)
     HOLD(pool.counts.numbers[0] == 1 && pool.counts.numbers[1] == 2 && pool.snoops.numbers[1] == 0 && pool.lengths.numbers[2] == 0);
     HOLD(done(yuyarisun_pool_collect(&pool), 0) && pool.collector.phase == 0 && pool.collector.closed == 1);
     HOLD(yuyarisun_pool_sound(&pool) && yuyarisun_pool_free_records(&pool) == 2);
-    HOLD(yuyarisun_pool_make(&pool, 2, 0).number == YUYARISUN_NO_SUCH && yuyarisun_pool_load(&pool, 0, 0, 0, 0).number == YUYARISUN_HOLDS_NONE);
+    HOLD(yuyarisun_pool_make(&pool, 2, 2).number == YUYARISUN_NO_SUCH_WORKER && yuyarisun_pool_load(&pool, 0, 0, 2, 2).number == YUYARISUN_NO_SUCH_REGISTER);
+    HOLD(yuyarisun_pool_load(&pool, 0, 0, 0, 2).number == YUYARISUN_NO_SUCH_LINK && yuyarisun_pool_load(&pool, 0, 0, 0, 0).number == YUYARISUN_HOLDS_NONE);
     return 0;
 }
 

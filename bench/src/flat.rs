@@ -33,9 +33,11 @@ pub struct Pool<const N: usize, const K: usize, const W: usize, const R: usize> 
 }
 
 pub const DONE: u16 = 0;
-pub const NO_SUCH: u16 = 3;
+pub const NO_SUCH_WORKER: u16 = 3;
 pub const HOLDS_NONE: u16 = 4;
 pub const NONE_FREE: u16 = 5;
+pub const NO_SUCH_REGISTER: u16 = 13;
+pub const NO_SUCH_LINK: u16 = 14;
 
 /// The number, and the value.
 pub type Answer = (u16, u16);
@@ -98,6 +100,19 @@ impl<const N: usize, const K: usize, const W: usize, const R: usize> Pool<N, K, 
         }
     }
 
+    /// Which number was wrong, of an event of which one was.
+    #[cold]
+    fn wrong_number(&self, w: usize, r: usize, q: usize) -> Answer {
+        let number = if w >= self.w {
+            NO_SUCH_WORKER
+        } else if r >= self.r || q >= self.r {
+            NO_SUCH_REGISTER
+        } else {
+            NO_SUCH_LINK
+        };
+        (number, 0)
+    }
+
     /// The first place between two at which a record is free.
     #[inline]
     fn first_free(&self, from: usize, to: usize) -> Option<usize> {
@@ -107,7 +122,7 @@ impl<const N: usize, const K: usize, const W: usize, const R: usize> Pool<N, K, 
     #[inline]
     pub fn make(&mut self, w: usize, r: usize) -> Answer {
         if w >= self.w || r >= self.r {
-            return (NO_SUCH, 0);
+            return self.wrong_number(w, r, r);
         }
         let Some(place) =
             self.first_free(self.last_made, self.n).or_else(|| self.first_free(0, self.last_made))
@@ -124,7 +139,7 @@ impl<const N: usize, const K: usize, const W: usize, const R: usize> Pool<N, K, 
     #[inline]
     pub fn move_(&mut self, w: usize, r: usize, q: usize) -> Answer {
         if w >= self.w || r >= self.r || q >= self.r {
-            return (NO_SUCH, 0);
+            return self.wrong_number(w, r, q);
         }
         self.registers[w][r] = self.registers[w][q];
         (DONE, self.registers[w][r])
@@ -133,7 +148,7 @@ impl<const N: usize, const K: usize, const W: usize, const R: usize> Pool<N, K, 
     #[inline]
     pub fn drop_(&mut self, w: usize, r: usize) -> Answer {
         if w >= self.w || r >= self.r {
-            return (NO_SUCH, 0);
+            return self.wrong_number(w, r, r);
         }
         self.registers[w][r] = 0;
         (DONE, 0)
@@ -142,7 +157,7 @@ impl<const N: usize, const K: usize, const W: usize, const R: usize> Pool<N, K, 
     #[inline]
     pub fn load(&mut self, w: usize, r: usize, q: usize, f: usize) -> Answer {
         if w >= self.w || r >= self.r || q >= self.r || f >= self.k {
-            return (NO_SUCH, 0);
+            return self.wrong_number(w, r, q);
         }
         let through = self.registers[w][q] as usize;
         if through == 0 {
@@ -156,7 +171,7 @@ impl<const N: usize, const K: usize, const W: usize, const R: usize> Pool<N, K, 
     #[inline]
     pub fn store(&mut self, w: usize, q: usize, f: usize, r: usize) -> Answer {
         if w >= self.w || q >= self.r || f >= self.k || r >= self.r {
-            return (NO_SUCH, 0);
+            return self.wrong_number(w, r, q);
         }
         let through = self.registers[w][q] as usize;
         if through == 0 {

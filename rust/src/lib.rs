@@ -6,7 +6,7 @@
 //! - [`Sizes`]     how many records, links, workers and registers it has
 //! - [`Record`]    a record's number; none is `None`
 //! - [`Event`]     an event as a value, for those who read events from somewhere
-//! - [`Refusal`]   why a call refuses, with document 01's number and its words
+//! - [`Refusal`]   why a call refuses, with the documents' number and its words
 //! - [`Collector`] the collector's own record: its phase, its position, how many cycles have closed
 //! - [`Tables`], [`Lent`]  the tables of a pool in the open, and the checked calls on them
 //! - [`replay()`]  a whole trace from its bytes, on tables of its own; [`Field`] for those who write one

@@ -75,7 +75,7 @@ impl Pool {
     /// let make = Event::Make { w: 0, r: 0 };
     /// let events = [make, make, Event::Collect, Event::Drop { w: 1, r: 0 }];
     /// let answers = events.map(|event| pool.event(event).map(|value| value.map(|record| record.number())));
-    /// assert_eq!(answers, [Ok(Some(1)), Err(Refusal::NoneFree), Ok(None), Err(Refusal::NoSuch)]);
+    /// assert_eq!(answers, [Ok(Some(1)), Err(Refusal::NoneFree), Ok(None), Err(Refusal::NoSuchWorker)]);
     /// # Ok::<(), Refusal>(())
     /// ```
     pub fn event(&mut self, event: Event) -> Answer {
@@ -102,7 +102,8 @@ impl Pool {
     /// The first free record above the last one made, else the lowest, becomes used, and register `r`
     /// holds it.
     ///
-    /// Refuses by [`Refusal::NoSuch`], and by [`Refusal::NoneFree`] where no record is free.
+    /// Refuses by [`Refusal::NoSuchWorker`], then by [`Refusal::NoSuchRegister`], and then by
+    /// [`Refusal::NoneFree`] where no record is free.
     ///
     /// ```
     /// use yuyarisun::{Pool, Refusal, Sizes};
@@ -110,7 +111,7 @@ impl Pool {
     /// let mut pool = Pool::new(Sizes { n: 1, k: 1, w: 1, r: 2 })?;
     /// assert_eq!(pool.make(0, 0)?.number(), 1);
     /// assert_eq!(pool.make(0, 1), Err(Refusal::NoneFree));
-    /// assert_eq!(pool.make(1, 0), Err(Refusal::NoSuch));
+    /// assert_eq!(pool.make(1, 0), Err(Refusal::NoSuchWorker));
     /// # Ok::<(), Refusal>(())
     /// ```
     pub fn make(&mut self, w: u8, r: u8) -> Result<Record, Refusal> {
@@ -120,7 +121,7 @@ impl Pool {
 
     /// Register `r` takes what `q` holds, which is answered.
     ///
-    /// Refuses by [`Refusal::NoSuch`].
+    /// Refuses by [`Refusal::NoSuchWorker`], and then by [`Refusal::NoSuchRegister`].
     ///
     /// ```
     /// use yuyarisun::{Pool, Sizes};
@@ -136,14 +137,15 @@ impl Pool {
 
     /// Register `r` becomes none. What it held is freed by the collector, once nobody can reach it.
     ///
-    /// Refuses by [`Refusal::NoSuch`].
+    /// Refuses by [`Refusal::NoSuchWorker`], and then by [`Refusal::NoSuchRegister`].
     pub fn drop_register(&mut self, w: u8, r: u8) -> Result<(), Refusal> {
         self.event(Event::Drop { w, r }).map(|_| ())
     }
 
     /// Register `r` takes link `f` of the record in `q`, which is answered.
     ///
-    /// Refuses by [`Refusal::NoSuch`], and by [`Refusal::HoldsNone`] where `q` holds none.
+    /// Refuses by [`Refusal::NoSuchWorker`], then by [`Refusal::NoSuchRegister`], then by
+    /// [`Refusal::NoSuchLink`], and then by [`Refusal::HoldsNone`] where `q` holds none.
     ///
     /// ```
     /// use yuyarisun::{Pool, Refusal, Sizes};
@@ -162,7 +164,8 @@ impl Pool {
     /// Link `f` of the record in `q` takes what `r` holds, which may be none. The value that was
     /// overwritten is answered.
     ///
-    /// Refuses by [`Refusal::NoSuch`], and by [`Refusal::HoldsNone`] where `q` holds none.
+    /// Refuses by [`Refusal::NoSuchWorker`], then by [`Refusal::NoSuchRegister`], then by
+    /// [`Refusal::NoSuchLink`], and then by [`Refusal::HoldsNone`] where `q` holds none.
     ///
     /// ```
     /// use yuyarisun::{Pool, Sizes};

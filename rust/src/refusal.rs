@@ -1,4 +1,4 @@
-//! Why a call refuses: the numbers 1 to 12 of document 01, with their words.
+//! Why a call refuses: the numbers 1 to 14 of documents 01 and 02, with their words.
 
 use std::fmt;
 
@@ -22,8 +22,8 @@ pub enum Refusal {
     WrongSize = 1,
     /// 2: the pool is not sound.
     NotSound = 2,
-    /// 3: no such worker, register or link.
-    NoSuch = 3,
+    /// 3: no such worker.
+    NoSuchWorker = 3,
     /// 4: load or store through a register that holds none.
     HoldsNone = 4,
     /// 5: make, and no record is free.
@@ -42,14 +42,18 @@ pub enum Refusal {
     ExtraByte = 11,
     /// 12: end field's count is not the last step number.
     WrongCount = 12,
+    /// 13: no such register.
+    NoSuchRegister = 13,
+    /// 14: no such link.
+    NoSuchLink = 14,
 }
 
 impl Refusal {
     /// All of them, in the order of their numbers.
-    pub const ALL: [Refusal; 12] = [
+    pub const ALL: [Refusal; 14] = [
         Refusal::WrongSize,
         Refusal::NotSound,
-        Refusal::NoSuch,
+        Refusal::NoSuchWorker,
         Refusal::HoldsNone,
         Refusal::NoneFree,
         Refusal::LogFull,
@@ -59,21 +63,23 @@ impl Refusal {
         Refusal::WrongStep,
         Refusal::ExtraByte,
         Refusal::WrongCount,
+        Refusal::NoSuchRegister,
+        Refusal::NoSuchLink,
     ];
 
-    /// Document 01's number, 1 to 12.
+    /// The documents' number, 1 to 14.
     pub fn number(self) -> u16 {
         self as u16
     }
 
-    /// The refusal that a number stands for; `None` for 0, which is "done", and above 12.
+    /// The refusal that a number stands for; `None` for 0, which is "done", and above 14.
     pub fn of_number(number: u16) -> Option<Refusal> {
         Refusal::ALL.into_iter().find(|refusal| refusal.number() == number)
     }
 
     /// What a number that a call has answered stands for: done, or why it refuses.
     ///
-    /// Panics at a number above 12. A library that answers one is not the one that was proved, and
+    /// Panics at a number above 14. A library that answers one is not the one that was proved, and
     /// whatever it has done can't be taken for done.
     pub(crate) fn answered(number: u16) -> Result<(), Refusal> {
         match number {
@@ -85,12 +91,12 @@ impl Refusal {
         }
     }
 
-    /// Document 01's words.
+    /// The documents' words.
     pub fn words(self) -> &'static str {
         match self {
             Refusal::WrongSize => "a size is out of its range, or a lent table has another length",
             Refusal::NotSound => "the pool is not sound",
-            Refusal::NoSuch => "no such worker, register or link",
+            Refusal::NoSuchWorker => "no such worker",
             Refusal::HoldsNone => "load or store through a register that holds none",
             Refusal::NoneFree => "make, and no record is free",
             Refusal::LogFull => "store that must log, and the worker's log has S entries",
@@ -100,6 +106,8 @@ impl Refusal {
             Refusal::WrongStep => "step number not the previous plus one",
             Refusal::ExtraByte => "a byte after the end field",
             Refusal::WrongCount => "end field's count is not the last step number",
+            Refusal::NoSuchRegister => "no such register",
+            Refusal::NoSuchLink => "no such link",
         }
     }
 }

@@ -37,8 +37,8 @@ pub struct Replay {
 ///
 /// Field::End { count: 3 }.put(&mut trace);
 /// let whole = replay(&trace);
-/// assert_eq!(whole.answers[1], Err(Refusal::NoSuch));
-/// assert_eq!(whole.to_string(), "1 0 1\n2 3 0\n3 0 0\nend 1 0\n");
+/// assert_eq!(whole.answers[1], Err(Refusal::NoSuchLink));
+/// assert_eq!(whole.to_string(), "1 0 1\n2 14 0\n3 0 0\nend 1 0\n");
 /// assert_eq!(whole.ending?.collector().phase, 1);
 /// # Ok::<(), yuyarisun::Stop>(())
 /// ```

@@ -135,7 +135,7 @@ impl Lent {
     /// let (mut step, mut numbers) = (0, [0; 4]);
     /// assert_eq!(lent.events(&bytes, &mut step, &mut numbers), Ok(2));
     /// let answers: Vec<_> = answers_in(&numbers).collect();
-    /// assert_eq!((step, answers), (2, vec![Ok(Record::of_number(1)), Err(Refusal::NoSuch)]));
+    /// assert_eq!((step, answers), (2, vec![Ok(Record::of_number(1)), Err(Refusal::NoSuchRegister)]));
     ///
     /// let stop = lent.events(&bytes, &mut step, &mut []).unwrap_err();
     /// assert_eq!((stop.refusal, stop.place, stop.events), (Refusal::WrongStep, 0, 0));

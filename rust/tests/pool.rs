@@ -111,14 +111,23 @@ fn a_refused_event_changes_nothing() {
     let mut pool = pool(2, 1, 1, 2);
     pool.make(0, 0).unwrap();
     let before = pool.clone();
-    assert_eq!(pool.make(1, 0), Err(Refusal::NoSuch));
-    assert_eq!(pool.move_register(0, 2, 0), Err(Refusal::NoSuch));
-    assert_eq!(pool.drop_register(0, 2), Err(Refusal::NoSuch));
-    assert_eq!(pool.load(0, 0, 0, 1), Err(Refusal::NoSuch));
+    assert_eq!(pool.make(1, 0), Err(Refusal::NoSuchWorker));
+    assert_eq!(pool.move_register(0, 2, 0), Err(Refusal::NoSuchRegister));
+    assert_eq!(pool.drop_register(0, 2), Err(Refusal::NoSuchRegister));
+    assert_eq!(pool.load(0, 0, 0, 1), Err(Refusal::NoSuchLink));
     assert_eq!(pool.load(0, 0, 1, 0), Err(Refusal::HoldsNone));
     assert_eq!(pool.store(0, 1, 0, 0), Err(Refusal::HoldsNone));
-    assert_eq!(pool.store(0, 1, 0, 255), Err(Refusal::NoSuch));
     assert_eq!(pool, before);
+}
+
+#[test]
+fn of_two_wrong_numbers_the_first_is_told() {
+    let mut pool = pool(2, 1, 1, 2);
+    assert_eq!(pool.drop_register(1, 2), Err(Refusal::NoSuchWorker));
+    assert_eq!(pool.load(1, 0, 0, 1), Err(Refusal::NoSuchWorker));
+    assert_eq!(pool.store(0, 0, 1, 255), Err(Refusal::NoSuchRegister));
+    assert_eq!(pool.store(0, 1, 0, 255), Err(Refusal::NoSuchRegister));
+    assert_eq!(pool.store(0, 1, 255, 0), Err(Refusal::NoSuchLink));
 }
 
 #[test]
@@ -189,11 +198,11 @@ fn lent_tables_are_checked_at_every_call() {
 #[test]
 fn refusals_have_the_documents_numbers_and_words() {
     let numbers: Vec<u16> = Refusal::ALL.into_iter().map(Refusal::number).collect();
-    assert_eq!(numbers, (1..=12).collect::<Vec<u16>>());
+    assert_eq!(numbers, (1..=14).collect::<Vec<u16>>());
     assert!(Refusal::ALL.into_iter().all(|refusal| Refusal::of_number(refusal.number()) == Some(refusal)));
-    assert_eq!((Refusal::of_number(0), Refusal::of_number(13)), (None, None));
+    assert_eq!((Refusal::of_number(0), Refusal::of_number(15)), (None, None));
     let words: BTreeSet<String> = Refusal::ALL.into_iter().map(|refusal| refusal.to_string()).collect();
-    assert_eq!(words.len(), 12);
+    assert_eq!(words.len(), 14);
     let error: Box<dyn Error> = Refusal::NotSound.into();
     assert_eq!(error.to_string(), "the pool is not sound");
 }

@@ -1,5 +1,5 @@
 //! The replay program over a pool in flat arrays: reads a trace from standard input and prints what
-//! document 01 says that `replay` prints. A user's program, written for speed.
+//! the documents say that `replay` prints. A user's program, written for speed.
 
 use bench::flat::Pool;
 use std::io::{self, Read, StdinLock, StdoutLock, Write};
@@ -95,6 +95,16 @@ impl Output {
         self.at += 1;
     }
 
+    /// A number that mostly has one digit.
+    #[inline]
+    fn short(&mut self, n: u16) {
+        if n < 10 {
+            self.byte(b'0' + n as u8);
+        } else {
+            self.decimal(n.into());
+        }
+    }
+
     fn word(&mut self, word: &[u8]) {
         self.buffer[self.at..self.at + word.len()].copy_from_slice(word);
         self.at += word.len();
@@ -114,13 +124,9 @@ impl Output {
         }
         self.decimal(step.into());
         self.byte(b' ');
-        self.byte(b'0' + number as u8);
+        self.short(number);
         self.byte(b' ');
-        if value < 10 {
-            self.byte(b'0' + value as u8);
-        } else {
-            self.decimal(value.into());
-        }
+        self.short(value);
         self.byte(b'\n');
         Ok(())
     }

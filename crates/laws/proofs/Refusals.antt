@@ -3,13 +3,14 @@
 --     decided-outcome, decided     what holds of a refusal, and of what is done where no test is true, holds of the outcome
 --     decide-first, decide-next, decide-all     the outcome itself, test by test
 --     RegisterThere, LinkThere     the worker and its register, the link of the record that a register holds are there
---     register-there, move-there, load-there, store-there     the test of an event that they are
+--     hasNumbers              every number of a load or a store is there
+--     register-there, registers-there, numbers-there     the test of an event that they are
 --     can-make, can-load, can-store   what is known where none of the tests of an event is true
 -- Assumes nothing.
 use Prim.Native.Nat.{ℕ, _≤_, _<_}
 use mathlib.Core.Path.{_≡_, refl, ap, _∙_}
 use mathlib.Core.Bool.{Bool, true, false, cond, _&&_}
-use mathlib.Core.List.{List, [], _∷_}
+use mathlib.Core.List.{List, [], _∷_, _++_}
 use native.Mathlib.Omega.{arith}
 use borrow.Author.Tests.{ltb-true, eqb-false, not-false}
 use Rattle.rules.specs.declared.Sizes.{Sizes}
@@ -18,7 +19,7 @@ use Rattle.rules.specs.declared.Event.the-variants.{Make, Load, Store}
 use Rattle.rules.specs.Pool.{Pool, registerAt}
 use Rattle.rules.specs.Reply.{Outcome}
 use Rattle.rules.specs.Worker.{chosen}
-use Rattle.rules.specs.Outcome.{Test, hasWorker, hasRegister, hasLink, noneFree, refusals, refused, decide}
+use Rattle.rules.specs.Outcome.{Test, noSuch, hasWorker, hasRegister, hasLink, holdsNone, noneFree, logFull, refusals, refused, decide}
 use Rattle.rules.specs.Sound.{Each}
 use Rattle.laws.proofs.Tests.{and-left, and-right}
 
@@ -67,29 +68,25 @@ pub record LinkThere (s : Sizes) (p : Pool) (w q f : ℕ) : Type 0 where
   pub link : f < s .k
   pub holds : 1 ≤ registerAt p w q .0
 
+there : (s : Sizes) (w r : ℕ) → hasWorker s w ≡ true → hasRegister s r ≡ true → RegisterThere s w r
+there s w r x y = record { worker = ltb-true w (s .w) x; register = ltb-true r (s .r) y }
+
 pub register-there : (s : Sizes) (w r : ℕ) → (hasWorker s w && hasRegister s r) ≡ true → RegisterThere s w r
-register-there s w r h =
-    record {
-      worker = ltb-true w (s .w) (and-left (hasWorker s w) (hasRegister s r) h);
-      register = ltb-true r (s .r) (and-right (hasWorker s w) (hasRegister s r) h);
-    }
+register-there s w r h = there s w r (and-left (hasWorker s w) (hasRegister s r) h) (and-right (hasWorker s w) (hasRegister s r) h)
 
-pub move-there : (s : Sizes) (w r q : ℕ) → (hasWorker s w && hasRegister s r && hasRegister s q) ≡ true → RegisterThere s w r × (q < s .r)
-move-there s w r q all =
-    (register-there s w r (and-left _ (hasRegister s q) all), ltb-true q (s .r) (and-right (hasWorker s w && hasRegister s r) _ all))
+pub registers-there : (s : Sizes) (w r q : ℕ) → (hasWorker s w && (hasRegister s r && hasRegister s q)) ≡ true → RegisterThere s w r × (q < s .r)
+registers-there s w r q all =
+    let both = and-right (hasWorker s w) (hasRegister s r && hasRegister s q) all in
+    (there s w r (and-left _ (hasRegister s r && hasRegister s q) all) (and-left _ (hasRegister s q) both), ltb-true q (s .r) (and-right (hasRegister s r) _ both))
 
-pub load-there : (s : Sizes) (w r q f : ℕ) → (hasWorker s w && hasRegister s r && hasRegister s q && hasLink s f) ≡ true → RegisterThere s w r × (q < s .r) × (f < s .k)
-load-there s w r q f all =
-    let both = move-there s w r q (and-left _ (hasLink s f) all) in
-    (both .0, both .1, ltb-true f (s .k) (and-right (hasWorker s w && hasRegister s r && hasRegister s q) _ all))
+-- every number of a load or a store is there: q's record has the link, and r is the other register
+abbrev pub hasNumbers : Sizes → (w q r f : ℕ) → Bool
+hasNumbers s w q r f = hasWorker s w && (hasRegister s q && hasRegister s r) && hasLink s f
 
-pub store-there : (s : Sizes) (w q f r : ℕ) → (hasWorker s w && hasRegister s q && hasLink s f && hasRegister s r) ≡ true → RegisterThere s w q × (f < s .k) × (r < s .r)
-store-there s w q f r all =
-    let both : (hasWorker s w && hasRegister s q && hasLink s f) ≡ true = and-left _ (hasRegister s r) all in (
-      register-there s w q (and-left _ (hasLink s f) both),
-      ltb-true f (s .k) (and-right (hasWorker s w && hasRegister s q) _ both),
-      ltb-true r (s .r) (and-right (hasWorker s w && hasRegister s q && hasLink s f) _ all),
-    )
+pub numbers-there : (s : Sizes) (w q r f : ℕ) → hasNumbers s w q r f ≡ true → RegisterThere s w q × (r < s .r) × (f < s .k)
+numbers-there s w q r f all =
+    let both = registers-there s w q r (and-left _ (hasLink s f) all) in
+    (both .0, both .1, ltb-true f (s .k) (and-right (hasWorker s w && (hasRegister s q && hasRegister s r)) _ all))
 
 module _ (s : Sizes) (p : Pool) where
   -- "holds none" is not so
@@ -99,17 +96,24 @@ module _ (s : Sizes) (p : Pool) where
   pub can-make : (w r : ℕ) → Unrefused (refusals s p (Make w r)) → RegisterThere s w r × (1 ≤ chosen p .0)
   unfolding refusals noneFree
   can-make w r t =
-      let full = eqb-false (chosen p .0) 0 (t .1 .0) in
-      (register-there s w r (not-false _ (t .0)), omega arith)
+      let full = eqb-false (chosen p .0) 0 (t .1 .1 .1 .0) in
+      (there s w r (not-false _ (t .0)) (not-false _ (t .1 .0)), omega arith)
 
-  pub can-load : (w r q f : ℕ) → Unrefused (refusals s p (Load w r q f)) → RegisterThere s w r × (q < s .r) × LinkThere s p w q f
+  -- the first four tests of a load and of a store
+  can-reach : (w q r f : ℕ) (tests : List Test)
+      → Unrefused (noSuch (hasWorker s w) (hasRegister s q && hasRegister s r) (hasLink s f) ++ (holdsNone p w q ∷ tests))
+      → RegisterThere s w q × (r < s .r) × LinkThere s p w q f
+  can-reach w q r f tests t =
+      let both = not-false _ (t .1 .0) in (
+        there s w q (not-false _ (t .0)) (and-left _ (hasRegister s r) both),
+        ltb-true r (s .r) (and-right (hasRegister s q) _ both),
+        record { link = ltb-true f (s .k) (not-false _ (t .1 .1 .0)); holds = holds w q (eqb-false (registerAt p w q .0) 0 (t .1 .1 .1 .0)) },
+      )
+
+  pub can-load : (w r q f : ℕ) → Unrefused (refusals s p (Load w r q f)) → RegisterThere s w q × (r < s .r) × LinkThere s p w q f
   unfolding refusals
-  can-load w r q f t =
-      let there = load-there s w r q f (not-false _ (t .0)) in
-      (there .0, there .1, record { link = there .2; holds = holds w q (eqb-false (registerAt p w q .0) 0 (t .1 .0)) })
+  can-load w r q f t = can-reach w q r f [] t
 
   pub can-store : (w q f r : ℕ) → Unrefused (refusals s p (Store w q f r)) → RegisterThere s w q × (r < s .r) × LinkThere s p w q f
   unfolding refusals
-  can-store w q f r t =
-      let there = store-there s w q f r (not-false _ (t .0)) in
-      (there .0, there .2, record { link = there .1; holds = holds w q (eqb-false (registerAt p w q .0) 0 (t .1 .0)) })
+  can-store w q f r t = can-reach w q r f (logFull s p w q f ∷ []) t

@@ -13,7 +13,7 @@ pub fn refusal_number(why: Refusal) -> u16
     match why {
         Refusal::WrongSize => 1,
         Refusal::NotSound => 2,
-        Refusal::NoSuch => 3,
+        Refusal::NoSuchWorker => 3,
         Refusal::HoldsNone => 4,
         Refusal::NoneFree => 5,
         Refusal::LogFull => 6,
@@ -23,6 +23,8 @@ pub fn refusal_number(why: Refusal) -> u16
         Refusal::WrongStep => 10,
         Refusal::ExtraByte => 11,
         Refusal::WrongCount => 12,
+        Refusal::NoSuchRegister => 13,
+        Refusal::NoSuchLink => 14,
     }
 }
 

@@ -1,4 +1,4 @@
--- What a call answers and what it leaves: the refusals in document 01's order, the one function `outcome`, and a run from the fresh pool.
+-- What a call answers and what it leaves: the refusals in the documents' order, the one function `outcome`, and a run from the fresh pool.
 --     Test, refusals, decide      the refusals of an event, in their order
 --     does                        what an event does where nothing refuses it
 --     outcome                     from sizes, pool and event to answer and pool
@@ -9,7 +9,7 @@
 -- Refusal 1 for a lent table's length, and 2, belong to the call on lent tables, which asks for them before it does what `outcome` says. Assumes nothing.
 use Prim.Native.Nat.{ℕ, zero, suc}
 use mathlib.Core.Bool.{Bool, true, false, cond, not, _&&_}
-use mathlib.Core.List.{List, [], _∷_}
+use mathlib.Core.List.{List, [], _∷_, _++_}
 use lib.Dec.{eqb, ltb, leb}
 use lib.ListN.{length}
 use Rattle.rules.specs.declared.Sizes.{Sizes}
@@ -17,7 +17,7 @@ use Rattle.rules.specs.declared.RecordNumber.{RecordNumber}
 use Rattle.rules.specs.declared.Event.{Event}
 use Rattle.rules.specs.declared.Event.the-variants.{Make, Move, Drop, Load, Store, Collect}
 use Rattle.rules.specs.declared.Refusal.{Refusal}
-use Rattle.rules.specs.declared.Refusal.the-variants.{WrongSize, NoSuch, HoldsNone, NoneFree, LogFull}
+use Rattle.rules.specs.declared.Refusal.the-variants.{WrongSize, NoSuchWorker, HoldsNone, NoneFree, LogFull, NoSuchRegister, NoSuchLink}
 use Rattle.rules.specs.declared.Answer.{Answer}
 use Rattle.rules.specs.declared.Answer.the-variants.{Fresh, Refused}
 use Rattle.rules.specs.Size.{inRange, links, linkNumber}
@@ -33,9 +33,14 @@ pub record Test : Type 0 where
   pub when : Bool
   pub why : Refusal
 
--- "3: no such worker, register or link"
-abbrev pub noSuch : Bool → Test
-noSuch here = record { when = not here; why = NoSuch }
+-- a number is asked for, and is there or not
+abbrev pub asked : Bool → Refusal → Test
+asked here why = record { when = not here; why = why }
+
+-- "From now on 3 means no such worker. Refusals: 13 register, 14 link, in the order 3, 13, 14 where 3 stood" (document 02, request 2). An event that names no
+-- link has none that is not there
+abbrev pub noSuch : (worker registers links : Bool) → List Test
+noSuch worker registers links = asked worker NoSuchWorker ∷ asked registers NoSuchRegister ∷ asked links NoSuchLink ∷ []
 
 abbrev pub hasWorker : Sizes → ℕ → Bool
 hasWorker s w = ltb w (s .w)
@@ -59,14 +64,14 @@ unfoldable pub logFull : Sizes → Pool → ℕ → ℕ → ℕ → Test
 logFull s p w q f =
     record { when = mustLog p (linkNumber s (registerAt p w q) f) && leb (links s) (length (logAt p w)); why = LogFull }
 
--- "Order for an event: .. 3, 4, then 5 or 6."
+-- "Order for an event: .. 3, 4, then 5 or 6", and "3, 13, 14 where 3 stood": 3, 13, 14, 4, then 5 or 6
 unfoldable pub refusals : Sizes → Pool → Event → List Test
-refusals s p (Make w r) = noSuch (hasWorker s w && hasRegister s r) ∷ noneFree p ∷ []
-refusals s p (Move w r q) = noSuch (hasWorker s w && hasRegister s r && hasRegister s q) ∷ []
-refusals s p (Drop w r) = noSuch (hasWorker s w && hasRegister s r) ∷ []
-refusals s p (Load w r q f) = noSuch (hasWorker s w && hasRegister s r && hasRegister s q && hasLink s f) ∷ holdsNone p w q ∷ []
+refusals s p (Make w r) = noSuch (hasWorker s w) (hasRegister s r) true ++ (noneFree p ∷ [])
+refusals s p (Move w r q) = noSuch (hasWorker s w) (hasRegister s r && hasRegister s q) true
+refusals s p (Drop w r) = noSuch (hasWorker s w) (hasRegister s r) true
+refusals s p (Load w r q f) = noSuch (hasWorker s w) (hasRegister s q && hasRegister s r) (hasLink s f) ++ (holdsNone p w q ∷ [])
 refusals s p (Store w q f r) =
-    noSuch (hasWorker s w && hasRegister s q && hasLink s f && hasRegister s r) ∷ holdsNone p w q ∷ logFull s p w q f ∷ []
+    noSuch (hasWorker s w) (hasRegister s q && hasRegister s r) (hasLink s f) ++ (holdsNone p w q ∷ logFull s p w q f ∷ [])
 refusals s p Collect = []
 
 -- "A refused event has the value 0 and changes nothing."

@@ -1,14 +1,15 @@
--- "Numbers a call may answer" of document 01: what an answer stands for.
+-- "Numbers a call may answer" of document 01, and those of document 02: what an answer stands for.
 --     refusalNumber    the number of a refusal
 --     number, value    the number and the value of an answer
 --     Outcome          an answer, and the pool after it
--- Where a refusal is given exactly is said by the definitions that give it: 3 to 6 by `refusals` of Outcome, 1 for the sizes by `start` there. Assumes nothing.
+-- Where a refusal is given exactly is said by the definitions that give it: 3 to 6, 13 and 14 by `refusals` of Outcome, 1 for the sizes by `start` there.
+-- Assumes nothing.
 use Prim.Native.Nat.{ℕ}
 use Rattle.rules.specs.declared.Refusal.{Refusal}
 use Rattle.rules.specs.declared.Refusal.the-variants.{
   WrongSize,
   NotSound,
-  NoSuch,
+  NoSuchWorker,
   HoldsNone,
   NoneFree,
   LogFull,
@@ -18,16 +19,18 @@ use Rattle.rules.specs.declared.Refusal.the-variants.{
   WrongStep,
   ExtraByte,
   WrongCount,
+  NoSuchRegister,
+  NoSuchLink,
 }
 use Rattle.rules.specs.declared.Answer.{Answer}
 use Rattle.rules.specs.declared.Answer.the-variants.{Fresh, Made, Moved, Dropped, Loaded, Stored, Stepped, Freed, Refused}
 use Rattle.rules.specs.Pool.{Pool}
 
--- the table's first column, from its second
+-- the table's first column, from its second; "From now on 3 means no such worker. Refusals: 13 register, 14 link" (document 02, request 2)
 unfoldable pub refusalNumber : Refusal → ℕ
 refusalNumber WrongSize = 1
 refusalNumber NotSound = 2
-refusalNumber NoSuch = 3
+refusalNumber NoSuchWorker = 3
 refusalNumber HoldsNone = 4
 refusalNumber NoneFree = 5
 refusalNumber LogFull = 6
@@ -37,6 +40,8 @@ refusalNumber StopsShort = 9
 refusalNumber WrongStep = 10
 refusalNumber ExtraByte = 11
 refusalNumber WrongCount = 12
+refusalNumber NoSuchRegister = 13
+refusalNumber NoSuchLink = 14
 
 -- 0: "done"
 unfoldable pub number : Answer → ℕ

@@ -1,4 +1,4 @@
--- The starred sample runs of document 01, one table.
+-- The starred sample runs of document 01, one table, with a row for what each request of document 02 brings.
 --     Seen, Row           what a row of the table says
 --     runs                the table
 --     holds               the test of a row, which antt computes
@@ -94,6 +94,12 @@ runs =
     (Make 0 0 ∷ Make 0 1 ∷ Drop 0 1 ∷ steps 6 ++ (Make 0 1 ∷ Make 0 2 ∷ Make 0 2 ∷ Drop 0 2 ∷ steps 6 ++ (Make 0 2 ∷ [])))
     (done 1 ∷ done 2 ∷ done 0 ∷ nothing 4 ++ (done 2 ∷ done 0 ∷ done 3 ∷ done 2 ∷ (5, 0) ∷ done 0 ∷ nothing 4 ++ (done 2 ∷ done 0 ∷ done 2 ∷ [])))
     (end 0 2 ∷ [])
+    -- "3 means no such worker. Refusals: 13 register, 14 link, in the order 3, 13, 14 where 3 stood" (document 02, request 2): a wrong worker and all else wrong
+    -- too; a wrong register and a wrong link; a wrong link through an empty register; an empty register
+    ∷ row (sizesOf 1 1 1 2)
+    (Drop 1 2 ∷ Store 1 2 1 2 ∷ Make 0 2 ∷ Load 0 2 1 1 ∷ Store 0 2 1 1 ∷ Store 0 1 1 2 ∷ Load 0 0 1 1 ∷ Store 0 1 1 0 ∷ Load 0 0 1 0 ∷ Store 0 1 0 0 ∷ [])
+    ((3, 0) ∷ (3, 0) ∷ (13, 0) ∷ (13, 0) ∷ (13, 0) ∷ (13, 0) ∷ (14, 0) ∷ (14, 0) ∷ (4, 0) ∷ (4, 0) ∷ [])
+    (end 1 0 ∷ [])
     -- "N makes answer 1..N, the next 5."
     ∷ makesAll 1
     ∷ makesAll 3

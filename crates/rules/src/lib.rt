@@ -3,7 +3,7 @@
 //     RecordNumber   a record's number, 1..N; 0 is none
 //     LinkNumber     a link's number, below S
 //     Event          the five worker events, and the collector's
-//     Refusal        why a call refuses, a case for each number but 0 of "Numbers a call may answer"
+//     Refusal        why a call refuses, a case for each number but 0 of "Numbers a call may answer", and for those of document 02
 //     Answer         what a call answers, a case for each thing that can happen
 //     Collector      the collector's own record
 //     Answered       an answer, together with the collector's record after it
@@ -38,8 +38,8 @@ pub enum Refusal {
     WrongSize,
     // 2: the pool is not sound.
     NotSound,
-    // 3: no such worker, register or link.
-    NoSuch,
+    // 3: no such worker (document 02, request 2).
+    NoSuchWorker,
     // 4: load or store through a register that holds none.
     HoldsNone,
     // 5: make, and no record is free.
@@ -58,6 +58,10 @@ pub enum Refusal {
     ExtraByte,
     // 12: end field's count is not the last step number.
     WrongCount,
+    // 13: no such register (document 02, request 2).
+    NoSuchRegister,
+    // 14: no such link (document 02, request 2).
+    NoSuchLink,
 }
 
 pub enum Answer {

@@ -18,7 +18,7 @@ use lib.ListN.{length}
 use Rattle.rules.specs.declared.Sizes.{Sizes}
 use Rattle.rules.specs.declared.RecordNumber.{RecordNumber}
 use Rattle.rules.specs.declared.Refusal.{Refusal}
-use Rattle.rules.specs.declared.Refusal.the-variants.{WrongSize, NotSound, NoSuch, HoldsNone, NoneFree, LogFull, WrongTag, WrongLength, StopsShort, WrongStep, ExtraByte, WrongCount}
+use Rattle.rules.specs.declared.Refusal.the-variants.{WrongSize, NotSound, NoSuchWorker, HoldsNone, NoneFree, LogFull, WrongTag, WrongLength, StopsShort, WrongStep, ExtraByte, WrongCount, NoSuchRegister, NoSuchLink}
 use Rattle.rules.specs.declared.Answer.the-variants.{Refused}
 use Rattle.rules.specs.declared.Event.{Event}
 use Rattle.rules.specs.declared.Event.the-variants.{Make, Move, Drop, Load, Store, Collect}
@@ -56,7 +56,7 @@ refusal-number : (why : Refusal) → eqb (number (Refused why)) 0 ≡ false
 unfolding number refusalNumber
 refusal-number WrongSize = refl
 refusal-number NotSound = refl
-refusal-number NoSuch = refl
+refusal-number NoSuchWorker = refl
 refusal-number HoldsNone = refl
 refusal-number NoneFree = refl
 refusal-number LogFull = refl
@@ -66,6 +66,8 @@ refusal-number StopsShort = refl
 refusal-number WrongStep = refl
 refusal-number ExtraByte = refl
 refusal-number WrongCount = refl
+refusal-number NoSuchRegister = refl
+refusal-number NoSuchLink = refl
 
 module _ (s : Sizes) (p : Pool) (h : Sound s p) (a : RecordNumber) (some : 1 ≤ a .0) where
   -- the mark after an outcome is the one that its answer tells

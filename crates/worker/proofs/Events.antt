@@ -5,7 +5,7 @@
 -- Assumes nothing.
 use Prim.Native.Nat.{ℕ, _+_, _-_, _*_, _≤_, _<_}
 use mathlib.Core.Path.{_≡_, refl, sym, ap, _∙_}
-use mathlib.Core.Bool.{Bool, true, false, not, _&&_}
+use mathlib.Core.Bool.{Bool, true, false, _&&_}
 use mathlib.Core.List.{List}
 use native.Mathlib.Omega.{arith}
 use borrow.Author.Tests.{ne-eqb}
@@ -22,7 +22,7 @@ use Rattle.rules.specs.Pool.{Pool, none, withRecord, valueAt, registerAt, withU
 use Rattle.rules.specs.Worker.{chosen, makes, moves, drops, loads}
 use Rattle.rules.specs.Outcome.{hasWorker, hasRegister, hasLink, noneFree, refusals, does}
 use Rattle.laws.proofs.Chosen.{chosen-low}
-use Rattle.laws.proofs.Refusals.{register-there, move-there, load-there}
+use Rattle.laws.proofs.Refusals.{register-there, registers-there, hasNumbers, numbers-there}
 use Rattle.tables.specs.Tables.{Tables, putUsed, putMakers, putRegisters}
 use Rattle.tables.specs.Lie.{isOn, marks, recordNumber, bits, poolOf, tablesOf}
 use Rattle.tables.specs.Known.{Known}
@@ -55,15 +55,16 @@ module _ {s : Sizes} {t : Tables} {c : Collector} (known : Known s t c) where
   unfolding refusals does drops poolOf
   dropped w r here =
       let at = register-there s w r here in
-      done-on known (Drop w r) (drops w r p) _ (unrefused known (Drop w r) (ap not here, tt)) (register-takes w r none (at .worker) (at .register))
+      done-on known (Drop w r) (drops w r p) _ (unrefused known (Drop w r) (hasWorker s w) (hasRegister s r) true refl (ap (λ (b : Bool). b && true) here) tt) (register-takes w r none (at .worker) (at .register))
 
-  pub moved : (w r q : ℕ) → (hasWorker s w && hasRegister s r && hasRegister s q) ≡ true
+  pub moved : (w r q : ℕ) → (hasWorker s w && (hasRegister s r && hasRegister s q)) ≡ true
       → let a : ℕ = getD (t .registers) (place w q) 0 in
       eventOn s t c (Move w r q) ≡ record { answer = Moved (recordNumber a); collector = c; tables = putRegisters (set (t .registers) (place w r) a) t }
   unfolding refusals does moves poolOf
   moved w r q here =
-      let at = move-there s w r q here in
-      done-on known (Move w r q) (moves w r q p) _ (unrefused known (Move w r q) (ap not here, tt)) (register-takes w r (registerAt p w q) (at .0 .worker) (at .0 .register))
+      let at = registers-there s w r q here in
+      done-on known (Move w r q) (moves w r q p) _ (unrefused known (Move w r q) (hasWorker s w) (hasRegister s r && hasRegister s q) true refl (ap (λ (b : Bool). b && true) here) tt)
+      (register-takes w r (registerAt p w q) (at .0 .worker) (at .0 .register))
       ∙ (λ j.
       let a : RecordNumber = register-stands s t c w q (at .0 .worker) (at .1) j in
       record { answer = Moved a; collector = c; tables = putRegisters (set (t .registers) (place w r) (a .0)) t })
@@ -101,7 +102,7 @@ module _ {s : Sizes} {t : Tables} {c : Collector} (known : Known s t c) where
       let q : Pool = withMaker makers (withUsed used p) in
       let shaped = known .tables .sound .shaped .workers in
       done-on known (Make w r) (makes w r p) _
-      (unrefused known (Make w r) (ap not here, (ne-eqb a 0 (λ e. omega arith), tt)))
+      (unrefused known (Make w r) (hasWorker s w) (hasRegister s r) true refl (ap (λ (b : Bool). b && true) here) (ne-eqb a 0 (λ e. omega arith), tt))
       (register-written s (withLast (chosen p) q) shaped w r (chosen p) (at .worker) (at .register)
       ∙ ap (λ (u : Tables). putRegisters (set (u .registers) (place w r) a) u) (last-written s q shaped (chosen p))
       ∙ ap
@@ -116,21 +117,21 @@ module _ {s : Sizes} {t : Tables} {c : Collector} (known : Known s t c) where
   linkOf w q f = linkNumber s (recordNumber (getD (t .registers) (place w q) 0)) f
 
   -- the record in a register that is there
-  pub base-stands : (w r q f : ℕ) → (hasWorker s w && hasRegister s r && hasRegister s q && hasLink s f) ≡ true → registerAt p w q ≡ recordNumber (getD (t .registers) (place w q) 0)
-  base-stands w r q f here = let there = load-there s w r q f here in register-stands s t c w q (there .0 .worker) (there .1)
+  pub base-stands : (w q r f : ℕ) → hasNumbers s w q r f ≡ true → registerAt p w q ≡ recordNumber (getD (t .registers) (place w q) 0)
+  base-stands w q r f here = let there = numbers-there s w q r f here in register-stands s t c w q (there .0 .worker) (there .0 .register)
 
-  pub loaded : (w r q f : ℕ) → (hasWorker s w && hasRegister s r && hasRegister s q && hasLink s f) ≡ true
+  pub loaded : (w r q f : ℕ) → hasNumbers s w q r f ≡ true
       → (getD (t .registers) (place w q) 0 ≡ 0 → ⊥)
       → let a : ℕ = getD (t .values) (linkOf w q f .0) 0 in
       eventOn s t c (Load w r q f) ≡ record { answer = Loaded (recordNumber a); collector = c; tables = putRegisters (set (t .registers) (place w r) a) t }
   unfolding refusals does loads poolOf
   loaded w r q f here some =
-      let base = base-stands w r q f here in
+      let base = base-stands w q r f here in
       let unempty : eqb (registerAt p w q .0) 0 ≡ false = ne-eqb (registerAt p w q .0) 0 (λ e. some (ap (λ (a : RecordNumber). a .0) (sym base) ∙ e)) in
-      let at = load-there s w r q f here in
+      let at = numbers-there s w q r f here in
       let value : valueAt p (linkNumber s (registerAt p w q) f) ≡ recordNumber (getD (t .values) (linkOf w q f .0) 0) =
       ap (λ (a : RecordNumber). valueAt p (linkNumber s a f)) base ∙ value-stands s t c (linkOf w q f) in
       done-on known (Load w r q f) (loads s w r q f p) _
-      (unrefused known (Load w r q f) (ap not here, (unempty, tt)))
-      (register-takes w r (valueAt p (linkNumber s (registerAt p w q) f)) (at .0 .worker) (at .0 .register))
+      (unrefused known (Load w r q f) (hasWorker s w) (hasRegister s q && hasRegister s r) (hasLink s f) refl here (unempty, tt))
+      (register-takes w r (valueAt p (linkNumber s (registerAt p w q) f)) (at .0 .worker) (at .1))
       ∙ (λ j. record { answer = Loaded (value j); collector = c; tables = putRegisters (set (t .registers) (place w r) (value j .0)) t })

@@ -21,7 +21,7 @@ use Rattle.rules.specs.Pool.{Entry, Pool, withRecord, valueAt, changedAt, regis
 use Rattle.rules.specs.Worker.{added, logged, snooped, stores}
 use Rattle.rules.specs.Outcome.{hasWorker, hasRegister, hasLink, logFull, refusals, does}
 use Rattle.laws.proofs.Change.{logged-keeps, stored-has}
-use Rattle.laws.proofs.Refusals.{store-there}
+use Rattle.laws.proofs.Refusals.{hasNumbers, numbers-there}
 use Rattle.tables.specs.Tables.{Tables, putHeld, putValues, putChanged, putLogs, putLengths}
 use Rattle.tables.specs.Lie.{isOn, bits, recordNumber, room, poolOf, tablesOf}
 use Rattle.tables.specs.Known.{Known}
@@ -33,6 +33,7 @@ use Rattle.tables.proofs.Written.{mark-record, value-written, changed-written, 
 use Rattle.tables.proofs.Done.{done-on}
 use Rattle.worker.specs.Lent.{nextEntry, loggedOn, heldAfter}
 use Rattle.worker.proofs.Refused.{unrefused}
+use Rattle.worker.proofs.Events.{base-stands}
 
 -- ---- an entry more
 
@@ -138,19 +139,16 @@ module _ {s : Sizes} {t : Tables} {c : Collector} (known : Known s t c) where
   abbrev pub linkThrough : ℕ → ℕ → ℕ → LinkNumber
   linkThrough w q f = linkNumber s (recordNumber (getD (t .registers) (place w q) 0)) f
 
-  pub store-base : (w q f r : ℕ) → (hasWorker s w && hasRegister s q && hasLink s f && hasRegister s r) ≡ true → registerAt p w q ≡ recordNumber (getD (t .registers) (place w q) 0)
-  store-base w q f r here = let at = store-there s w q f r here in register-stands s t c w q (at .0 .worker) (at .0 .register)
-
   -- "6": the test on the tables
-  pub full-stands : (w q f r : ℕ) → (hasWorker s w && hasRegister s q && hasLink s f && hasRegister s r) ≡ true
+  pub full-stands : (w q f r : ℕ) → hasNumbers s w q r f ≡ true
       → logFull s p w q f .when ≡ (not (isOn (getD (t .changed) (linkThrough w q f .0) 0)) && leb (links s) (getD (t .lengths) w 0))
   unfolding logFull
   full-stands w q f r here =
-      let at = store-there s w q f r here in
-      (λ j. not (changedAt p (linkNumber s (store-base w q f r here j) f)) && leb (links s) (log-length s t c known w (at .0 .worker) j))
+      let at = numbers-there s w q r f here in
+      (λ j. not (changedAt p (linkNumber s (base-stands known w q r f here j) f)) && leb (links s) (log-length s t c known w (at .0 .worker) j))
       ∙ ap (λ (b : Bool). not b && leb (links s) (getD (t .lengths) w 0)) (changed-stands s t c (linkThrough w q f))
 
-  pub stored : (w q f r : ℕ) → (hasWorker s w && hasRegister s q && hasLink s f && hasRegister s r) ≡ true
+  pub stored : (w q f r : ℕ) → hasNumbers s w q r f ≡ true
       → (getD (t .registers) (place w q) 0 ≡ 0 → ⊥)
       → (not (isOn (getD (t .changed) (linkThrough w q f .0) 0)) && leb (links s) (getD (t .lengths) w 0)) ≡ false
       → let l : LinkNumber = linkThrough w q f in
@@ -164,14 +162,15 @@ module _ {s : Sizes} {t : Tables} {c : Collector} (known : Known s t c) where
       }
   unfolding refusals does stores snooped
   stored w q f r here some free =
-      let at = store-there s w q f r here in
+      let at = numbers-there s w q r f here in
       let l : LinkNumber = linkThrough w q f in
-      let base = store-base w q f r here in
-      let new : registerAt p w r ≡ recordNumber (getD (t .registers) (place w r) 0) = register-stands s t c w r (at .0 .worker) (at .2) in
+      let base = base-stands known w q r f here in
+      let new : registerAt p w r ≡ recordNumber (getD (t .registers) (place w r) 0) = register-stands s t c w r (at .0 .worker) (at .1) in
       let link : linkNumber s (registerAt p w q) f ≡ l = ap (λ (a : RecordNumber). linkNumber s a f) base in
       let unempty : eqb (registerAt p w q .0) 0 ≡ false = ne-eqb (registerAt p w q .0) 0 (λ e. some (ap (λ (a : RecordNumber). a .0) (sym base) ∙ e)) in
       done-on known (Store w q f r) (stores s w q f r p) _
-      (unrefused known (Store w q f r) (ap not here, (unempty, (full-stands w q f r here ∙ free, tt))))
+      (unrefused known (Store w q f r) (hasWorker s w) (hasRegister s q && hasRegister s r) (hasLink s f) refl here
+      (unempty, (full-stands w q f r here ∙ free, tt)))
       (ap (λ (m : LinkNumber). tablesOf s (snooped w (registerAt p w r) (withValue m (registerAt p w r) (logged w m p)))) link
       ∙ ap (λ (a : RecordNumber). tablesOf s (snooped w a (withValue l a (logged w l p)))) new
       ∙ store-tables w l (recordNumber (getD (t .registers) (place w r) 0)) (at .0 .worker) (λ off. room-left off))

@@ -1,6 +1,8 @@
 // The worker events of document 01, each on the tables that it touches, of a pool that is known to be sound. All of it is inner (decision 4 of
 // docs/DECISIONS.md): the call on a whole pool is `pool::event`.
 //     makes, moves, drops, loads, stores    the events; each has the name of its definition in rules/specs/Worker.antt
+//     has_worker, has_register, has_link    whether the numbers that an event names are there
+//     wrong_number                          which of them was wrong
 //     chosen, first_free                    the record that a make takes
 //     full_before, eight_used               used records, eight in a turn
 //     logged, snooped                       the parts of a store that may or may not happen
@@ -28,18 +30,45 @@ ghost use lib.ListN.{length, getD};
 ghost use Rattle.rules.specs.Size.{inRange, links};
 ghost use Rattle.rules.specs.Pool.{Pool};
 ghost use Rattle.rules.specs.Worker.{chosen as chosenIn};
-ghost use Rattle.rules.specs.Outcome.{hasWorker, hasRegister};
+ghost use Rattle.rules.specs.Outcome.{hasWorker, hasRegister, hasLink};
 ghost use Rattle.tables.specs.Tables.{Tables, putRegisters};
 ghost use Rattle.tables.specs.Lie.{isOn, marks};
 ghost use Rattle.tables.specs.Event.{SomePool, Answers};
 ghost use Rattle.worker.specs.Lent.{makesOn, loadsOn, storesOn, logsOn, loggedOn, RoomToLog, heldAfter};
-ghost use Rattle.worker.specs.Raw.{allOn, freeFrom};
+ghost use Rattle.worker.specs.Raw.{wrongNumber, allOn, freeFrom};
 
-// "3: no such worker, register ..": there is such a one.
-fn has_register(s: Sizes, w: u8, r: u8) -> bool
-    ensures { λ x. ⌜ x ≡ (hasWorker s w && hasRegister s r) ⌝ }
+// "3 means no such worker": there is such a one.
+fn has_worker(s: Sizes, w: u8) -> bool
+    ensures { λ x. ⌜ x ≡ hasWorker s w ⌝ }
 {
-    ((w as u16) < s.w) & ((r as u16) < s.r)
+    (w as u16) < s.w
+}
+
+// "13 register"
+fn has_register(s: Sizes, r: u8) -> bool
+    ensures { λ x. ⌜ x ≡ hasRegister s r ⌝ }
+{
+    (r as u16) < s.r
+}
+
+// "14 link"
+fn has_link(s: Sizes, f: u8) -> bool
+    ensures { λ x. ⌜ x ≡ hasLink s f ⌝ }
+{
+    (f as u16) < s.k
+}
+
+// "in the order 3, 13, 14": which number was wrong, of an event of which one was.
+fn wrong_number(worker: bool, registers: bool) -> Refusal
+    ensures { λ x. ⌜ x ≡ wrongNumber worker registers ⌝ }
+{
+    if !worker {
+        return Refusal::NoSuchWorker;
+    }
+    if !registers {
+        return Refusal::NoSuchRegister;
+    }
+    Refusal::NoSuchLink
 }
 
 // Whether the eight records from a place on are used, asked of all eight at once.
@@ -113,8 +142,10 @@ pub fn makes(
     requires { ⌜ SomePool s (makesOn used makers registers) ⌝ }
     ensures { λ x. ⌜ Answers s (Event.Make w r) (makesOn (used .entry) (makers .entry) (registers .entry)) x (makesOn (used .exit) (makers .exit) (registers .exit)) ⌝ }
 {
-    if !has_register(s, w, r) {
-        return Answer::Refused(Refusal::NoSuch);
+    let worker = has_worker(s, w);
+    let there = has_register(s, r);
+    if !(worker & there) {
+        return Answer::Refused(wrong_number(worker, there));
     }
     let last = last_place(s);
     let a = chosen(used, registers[last]);
@@ -135,8 +166,10 @@ pub fn moves(s: Sizes, registers: &mut [u16], w: u8, r: u8, q: u8) -> Answer
     requires { ⌜ SomePool s (putRegisters (now registers)) ⌝ }
     ensures { λ x. ⌜ Answers s (Event.Move w r q) (putRegisters (now (registers .entry))) x (putRegisters (now (registers .exit))) ⌝ }
 {
-    if !(has_register(s, w, r) & ((q as u16) < s.r)) {
-        return Answer::Refused(Refusal::NoSuch);
+    let worker = has_worker(s, w);
+    let there = has_register(s, r) & has_register(s, q);
+    if !(worker & there) {
+        return Answer::Refused(wrong_number(worker, there));
     }
     let from = register_place(s, w as u16, q as u16);
     let a = registers[from];
@@ -150,8 +183,10 @@ pub fn drops(s: Sizes, registers: &mut [u16], w: u8, r: u8) -> Answer
     requires { ⌜ SomePool s (putRegisters (now registers)) ⌝ }
     ensures { λ x. ⌜ Answers s (Event.Drop w r) (putRegisters (now (registers .entry))) x (putRegisters (now (registers .exit))) ⌝ }
 {
-    if !has_register(s, w, r) {
-        return Answer::Refused(Refusal::NoSuch);
+    let worker = has_worker(s, w);
+    let there = has_register(s, r);
+    if !(worker & there) {
+        return Answer::Refused(wrong_number(worker, there));
     }
     let register = register_place(s, w as u16, r as u16);
     registers[register] = 0;
@@ -163,8 +198,10 @@ pub fn loads(s: Sizes, values: &[u16], registers: &mut [u16], w: u8, r: u8, q: u
     requires { ⌜ SomePool s (loadsOn values registers) ⌝ }
     ensures { λ x. ⌜ Answers s (Event.Load w r q f) (loadsOn (values .entry) (registers .entry)) x (loadsOn (values .entry) (registers .exit)) ⌝ }
 {
-    if !(has_register(s, w, r) & ((q as u16) < s.r) & ((f as u16) < s.k)) {
-        return Answer::Refused(Refusal::NoSuch);
+    let worker = has_worker(s, w);
+    let there = has_register(s, q) & has_register(s, r);
+    if !(worker & there & has_link(s, f)) {
+        return Answer::Refused(wrong_number(worker, there));
     }
     let from = register_place(s, w as u16, q as u16);
     let base = registers[from];
@@ -252,8 +289,10 @@ pub fn stores(
         x
         (storesOn (held .exit) (values .exit) (changed .exit) (registers .entry) (snoops .entry) (logs .exit) (lengths .exit)) ⌝ }
 {
-    if !(has_register(s, w, q) & ((f as u16) < s.k) & ((r as u16) < s.r)) {
-        return Answer::Refused(Refusal::NoSuch);
+    let worker = has_worker(s, w);
+    let there = has_register(s, q) & has_register(s, r);
+    if !(worker & there & has_link(s, f)) {
+        return Answer::Refused(wrong_number(worker, there));
     }
     let through = register_place(s, w as u16, q as u16);
     let base = registers[through];

@@ -1,18 +1,19 @@
-//! What a set of traces covered: how they ended, what their makes came upon, how they were handed
-//! over, and where in a field a read ended.
+//! What a set of traces covered: how they ended, what their makes came upon, what was wrong at once with
+//! an event, how they were handed over, and where in a field a read ended.
 
 use std::fmt;
 use std::str;
 
-use second::pool::{Pool, Record};
+use second::event::{happen, Event};
+use second::pool::Pool;
 use second::replay::Ending;
-use second::tally::{makes, MAKES};
-use second::trace::{well_formed, Field, Kind};
+use second::tally::{makes, wrongs, MAKES, WRONGS};
+use second::trace::{well_formed, Field, Kind, Reader};
 
 use crate::hand::{pieces, Way, ROOM};
 
 /// The answer numbers that an event can get in a trace.
-const ANSWERS: [usize; 4] = [0, 3, 4, 5];
+const ANSWERS: [usize; 6] = [0, 3, 4, 5, 13, 14];
 
 /// The numbers that a trace can be refused with.
 const REFUSALS: [usize; 7] = [1, 7, 8, 9, 10, 11, 12];
@@ -33,9 +34,10 @@ type Ends = [[u64; LONGEST]; KINDS.len()];
 #[derive(Default)]
 pub struct Cover {
     whole: u64,
-    refused: [u64; 13],
-    answers: [u64; 13],
+    refused: [u64; 15],
+    answers: [u64; 15],
     makes: [u64; MAKES.len()],
+    wrongs: [u64; WRONGS.len()],
     by_pipe: u64,
     by_file: u64,
     by_pieces: u64,
@@ -59,13 +61,11 @@ impl Cover {
             _ => self.whole += 1,
         }
         let mut events = 0;
-        for (number, _) in answers(printed) {
+        for number in answers(printed) {
             events += 1;
             self.answers[number] += 1;
         }
-        if events > 0 {
-            count_makes(trace, printed, &mut self.makes);
-        }
+        self.count_upon(trace);
         self.long += u64::from(events >= LONG);
         self.most_events = self.most_events.max(events);
         self.most_bytes = self.most_bytes.max(trace.len());
@@ -85,12 +85,33 @@ impl Cover {
         }
     }
 
+    /// What the events of a trace came upon.
+    fn count_upon(&mut self, trace: &[u8]) {
+        let mut reader = Reader::new(trace);
+        let mut pool = None;
+        while let Ok(Some(field)) = reader.next_field() {
+            match (field, &mut pool) {
+                (Field::Sizes(sizes), _) => pool = Some(Pool::fresh(sizes)),
+                (Field::Event { event, .. }, Some(pool)) => {
+                    add(&mut self.wrongs, &wrongs(pool, event).map(u64::from));
+                    let upon = matches!(event, Event::Make { .. }).then(|| makes(pool));
+                    if let (0, Some(upon)) = (happen(pool, event).number, upon) {
+                        add(&mut self.makes, &upon.map(u64::from));
+                    }
+                }
+                // The end field. No event comes before the sizes.
+                _ => {}
+            }
+        }
+    }
+
     /// What both covered.
     pub fn and(mut self, other: Cover) -> Cover {
         self.whole += other.whole;
         add(&mut self.refused, &other.refused);
         add(&mut self.answers, &other.answers);
         add(&mut self.makes, &other.makes);
+        add(&mut self.wrongs, &other.wrongs);
         self.by_pipe += other.by_pipe;
         self.by_file += other.by_file;
         self.by_pieces += other.by_pieces;
@@ -118,7 +139,7 @@ impl Cover {
         for number in ANSWERS {
             ask(format!("an event answered {number}"), self.answers[number]);
         }
-        for (what, times) in MAKES.into_iter().zip(self.makes) {
+        for (what, times) in MAKES.into_iter().zip(self.makes).chain(WRONGS.into_iter().zip(self.wrongs)) {
             ask(what.into(), times);
         }
         let ways = [self.by_pipe, self.by_file, self.by_pieces];
@@ -143,31 +164,13 @@ fn add(sums: &mut [u64], others: &[u64]) {
     }
 }
 
-/// The answer number and the value in the line of each event.
-fn answers(printed: &[u8]) -> impl Iterator<Item = (usize, u16)> + '_ {
+/// The answer number in the line of each event.
+fn answers(printed: &[u8]) -> impl Iterator<Item = usize> + '_ {
     printed.split(|byte| *byte == b'\n').filter_map(|line| {
         let mut words = str::from_utf8(line).ok()?.split(' ');
         let _step: u32 = words.next()?.parse().ok()?;
-        Some((words.next()?.parse().ok()?, words.next()?.parse().ok()?))
+        words.next()?.parse().ok()
     })
-}
-
-/// What the makes of a trace whose sizes are taken came upon, by its lines: used are the makes
-/// answered with 0 less the records freed.
-fn count_makes(trace: &[u8], printed: &[u8], times: &mut [u64]) {
-    let Some(Field::Sizes(sizes)) = well_formed(trace) else { return };
-    let mut pool = Pool::fresh(sizes);
-    for ((_, kind), (number, value)) in fields(trace).skip(1).zip(answers(printed)) {
-        match (kind, number) {
-            (Kind::Make, 0) => {
-                add(times, &makes(&pool).map(u64::from));
-                pool.used.insert(Record(value));
-                pool.last_made = Some(Record(value));
-            }
-            (Kind::Collect, _) => drop(pool.used.remove(&Record(value))),
-            _ => {}
-        }
-    }
 }
 
 /// The fields of a trace, up to the first bytes that are none: where each begins, and its kind.
@@ -220,13 +223,17 @@ impl fmt::Display for Cover {
     fn fmt(&self, out: &mut fmt::Formatter) -> fmt::Result {
         let refused: u64 = self.refused.iter().sum();
         writeln!(out, "{} traces: {} whole, {refused} refused", self.whole + refused, self.whole)?;
-        let numbered = |numbers: &[usize], times: &[u64; 13]| -> String {
+        let numbered = |numbers: &[usize], times: &[u64; 15]| -> String {
             numbers.iter().map(|number| format!("  {number}: {}", times[*number])).collect()
         };
         writeln!(out, "how often each answer number was given:{}", numbered(&ANSWERS, &self.answers))?;
         writeln!(out, "how often a trace was refused with it:{}", numbered(&REFUSALS, &self.refused))?;
         writeln!(out, "how often a make came upon this:")?;
         for (times, what) in self.makes.iter().zip(MAKES) {
+            writeln!(out, "{times:>10}  {what}")?;
+        }
+        writeln!(out, "how often this was wrong at once with an event:")?;
+        for (times, what) in self.wrongs.iter().zip(WRONGS) {
             writeln!(out, "{times:>10}  {what}")?;
         }
         writeln!(
@@ -274,7 +281,7 @@ mod tests {
     }
 
     #[test]
-    fn makes_are_told_apart_by_their_lines() {
+    fn makes_are_told_apart() {
         let cycle = "times 6 collect";
         let trace = [
             "sizes 2 1 1 2",
@@ -293,11 +300,35 @@ mod tests {
             "end",
         ];
         let trace = trace::text::write(&trace.join("\n")).unwrap();
-        let mut printed = Vec::new();
-        second::replay::replay(&trace, &mut printed, None).unwrap();
-        let mut times = [0; MAKES.len()];
-        count_makes(&trace, &printed, &mut times);
-        assert_eq!(times, [0, 1, 1, 1, 1]);
+        let mut cover = Cover::default();
+        cover.count_upon(&trace);
+        assert_eq!(cover.makes, [0, 1, 1, 1, 1]);
+    }
+
+    #[test]
+    fn what_is_wrong_at_once_is_told_apart() {
+        let trace = [
+            "sizes 1 1 1 2",
+            "move 1 0 2",    // a worker and a register
+            "load 1 0 0 1",  // a worker and a link
+            "store 0 2 1 0", // a register and a link
+            "load 0 0 2 1",  // the same
+            "store 1 2 1 0", // all three
+            "load 0 2 1 0",  // a register, and the other one holds none
+            "load 0 0 2 0",  // a register, which is the one gone through
+            "store 0 1 1 0", // a link, and the register holds none
+            "drop 0 2",      // a register alone
+            "make 0 0",
+            "store 0 0 1 1", // a link alone
+            "make 1 0",      // a worker, and no record is free
+            "make 0 2",      // a register, and no record is free
+            "make 0 1",      // no record is free
+            "load 0 0 1 0",  // the register holds none
+            "end",
+        ];
+        let mut cover = Cover::default();
+        cover.count_upon(&trace::text::write(&trace.join("\n")).unwrap());
+        assert_eq!(cover.wrongs, [1, 1, 2, 1, 1, 1, 1, 1]);
     }
 
     #[test]

@@ -5,7 +5,7 @@
 
 use std::collections::{BTreeMap, BTreeSet};
 
-use crate::event::{Answer, Event, NO_SUCH};
+use crate::event::{Answer, Event, NO_SUCH_REGISTER, NO_SUCH_WORKER};
 use crate::pool::{Link, Pool, Record};
 use crate::reach::{left_to_loops, lost, reached, two_workers_share};
 use crate::sound::{sound, tallies_are_the_counts};
@@ -103,7 +103,8 @@ impl<'a> Check<'a> {
     /// make, and no record is free."
     fn made_is_the_next_free(&mut self, moment: &Moment) -> Result<(), String> {
         let Answer { number, value } = moment.answer;
-        if !matches!(moment.event, Event::Make { .. }) || number == NO_SUCH {
+        let names_what_is_not_there = [NO_SUCH_WORKER, NO_SUCH_REGISTER].contains(&number);
+        if !matches!(moment.event, Event::Make { .. }) || names_what_is_not_there {
             return Ok(());
         }
         let n = moment.before.sizes.n;

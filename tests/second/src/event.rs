@@ -1,9 +1,10 @@
-//! The events, their answers, and "Order for an event: 1, 2, 3, 4, then 5 or 6".
+//! The events, their answers, and "Order for an event: 1, 2, 3, 4, then 5 or 6", with "3, 13, 14 where 3
+//! stood" (document 02, request 2).
 //!
 //! 1 and 2 are not here: "a whole trace starts fresh and need not check again", and its sizes are
 //! judged when they are read.
 
-use crate::pool::{Link, Pool, Record};
+use crate::pool::{Link, Pool, Record, Sizes};
 use crate::{collector, worker};
 
 /// An event with the numbers a trace gives it, in the trace's order.
@@ -24,10 +25,12 @@ pub struct Answer {
     pub value: Option<Record>,
 }
 
-pub const NO_SUCH: u8 = 3;
+pub const NO_SUCH_WORKER: u8 = 3;
 pub const THROUGH_NONE: u8 = 4;
 pub const NO_FREE_RECORD: u8 = 5;
 pub const LOG_FULL: u8 = 6;
+pub const NO_SUCH_REGISTER: u8 = 13;
+pub const NO_SUCH_LINK: u8 = 14;
 
 /// One event: "a refused event changes nothing".
 pub fn happen(pool: &mut Pool, event: Event) -> Answer {
@@ -45,10 +48,15 @@ pub fn happen(pool: &mut Pool, event: Event) -> Answer {
     Answer { number: 0, value }
 }
 
-/// "Order for an event: ... 3, 4, then 5 or 6."
+/// "Order for an event: ... 3, 4, then 5 or 6", and "in the order 3, 13, 14 where 3 stood" (document 02,
+/// request 2).
 fn refusal(pool: &Pool, event: Event) -> Option<u8> {
-    if names_what_is_not_there(pool, event) {
-        Some(NO_SUCH)
+    if names_no_such_worker(pool.sizes, event) {
+        Some(NO_SUCH_WORKER)
+    } else if names_no_such_register(pool.sizes, event) {
+        Some(NO_SUCH_REGISTER)
+    } else if names_no_such_link(pool.sizes, event) {
+        Some(NO_SUCH_LINK)
     } else if goes_through_none(pool, event) {
         Some(THROUGH_NONE)
     } else if makes_without_a_free_record(pool, event) {
@@ -60,33 +68,49 @@ fn refusal(pool: &Pool, event: Event) -> Option<u8> {
     }
 }
 
-/// "3: no such worker, register or link."
-fn names_what_is_not_there(pool: &Pool, event: Event) -> bool {
-    let worker = |w: u8| u16::from(w) < pool.sizes.w;
-    let register = |r: u8| u16::from(r) < pool.sizes.r;
-    let link = |f: u8| u16::from(f) < pool.sizes.k;
-    !match event {
-        Event::Make { w, r } | Event::Drop { w, r } => worker(w) && register(r),
-        Event::Move { w, r, q } => worker(w) && register(r) && register(q),
-        Event::Load { w, r, q, f } | Event::Store { w, q, f, r } => {
-            worker(w) && register(r) && register(q) && link(f)
-        }
-        Event::Collect => true,
+/// "From now on 3 means no such worker" (document 02, request 2).
+pub fn names_no_such_worker(sizes: Sizes, event: Event) -> bool {
+    match event {
+        Event::Make { w, .. }
+        | Event::Move { w, .. }
+        | Event::Drop { w, .. }
+        | Event::Load { w, .. }
+        | Event::Store { w, .. } => u16::from(w) >= sizes.w,
+        Event::Collect => false,
     }
 }
 
-/// "4: load or store through a register that holds none."
-fn goes_through_none(pool: &Pool, event: Event) -> bool {
+/// "Refusals: 13 register, .."
+pub fn names_no_such_register(sizes: Sizes, event: Event) -> bool {
+    let no_such = |register: u8| u16::from(register) >= sizes.r;
     match event {
-        Event::Load { w, q, .. } | Event::Store { w, q, .. } => {
-            pool.workers[usize::from(w)].registers[usize::from(q)].is_none()
+        Event::Make { r, .. } | Event::Drop { r, .. } => no_such(r),
+        Event::Move { r, q, .. } | Event::Load { r, q, .. } | Event::Store { q, r, .. } => {
+            no_such(r) || no_such(q)
         }
-        _ => false,
+        Event::Collect => false,
     }
+}
+
+/// ".. 14 link."
+pub fn names_no_such_link(sizes: Sizes, event: Event) -> bool {
+    match event {
+        Event::Load { f, .. } | Event::Store { f, .. } => u16::from(f) >= sizes.k,
+        Event::Make { .. } | Event::Move { .. } | Event::Drop { .. } | Event::Collect => false,
+    }
+}
+
+/// "4: load or store through a register that holds none." One that is not there holds nothing.
+pub fn goes_through_none(pool: &Pool, event: Event) -> bool {
+    let (Event::Load { w, q, .. } | Event::Store { w, q, .. }) = event else {
+        return false;
+    };
+    let worker = pool.workers.get(usize::from(w));
+    worker.and_then(|worker| worker.registers.get(usize::from(q))).is_some_and(Option::is_none)
 }
 
 /// "5: make, and no record is free."
-fn makes_without_a_free_record(pool: &Pool, event: Event) -> bool {
+pub fn makes_without_a_free_record(pool: &Pool, event: Event) -> bool {
     matches!(event, Event::Make { .. }) && pool.free_records() == 0
 }
 

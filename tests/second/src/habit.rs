@@ -257,14 +257,16 @@ impl Hand<'_> {
         }
     }
 
-    /// One of the event's numbers is out of range, by one or by far.
+    /// One to three of the event's numbers are mostly out of range, by one or by far.
     fn out_of_range(&mut self) -> Event {
         let event = self.anything();
         let mut numbers = event.numbers();
-        let place = self.random.below(numbers.len());
         let sizes = self.pool.sizes;
-        let size = self.random.pick(&[sizes.w, sizes.r, sizes.k]);
-        numbers[place] = self.random.pick(&[size as u8, size as u8 + 1, 255]);
+        for _ in 0..1 + self.random.below(3) {
+            let place = self.random.below(numbers.len());
+            let size = self.random.pick(&[sizes.w, sizes.r, sizes.k]);
+            numbers[place] = self.random.pick(&[size as u8, size as u8 + 1, 255]);
+        }
         event.kind().event(&numbers).unwrap_or(event)
     }
 }

@@ -6,7 +6,10 @@ use std::collections::{BTreeMap, BTreeSet};
 use std::fmt;
 
 use crate::damage::Damage;
-use crate::event::{Answer, Event};
+use crate::event::{
+    goes_through_none, makes_without_a_free_record, names_no_such_link, names_no_such_register,
+    names_no_such_worker, Answer, Event,
+};
 use crate::pool::{Link, Pool, Record};
 use crate::replay::Ending;
 use crate::trace::Kind;
@@ -43,6 +46,38 @@ pub fn makes(before: &Pool) -> [bool; MAKES.len()] {
     ]
 }
 
+/// What an event may be refused for at once. The first of them is answered.
+pub const WRONGS: [&str; 8] = [
+    "wrong: a worker and a register",
+    "wrong: a worker and a link",
+    "wrong: a register and a link",
+    "wrong: a worker, a register and a link",
+    "wrong: a register, and the other one, gone through, holds none",
+    "wrong: a link, and the register gone through holds none",
+    "wrong: a worker, and no record is free to be made",
+    "wrong: a register, and no record is free to be made",
+];
+
+/// Which of these hold of an event on a pool.
+pub fn wrongs(before: &Pool, event: Event) -> [bool; WRONGS.len()] {
+    let sizes = before.sizes;
+    let worker = names_no_such_worker(sizes, event);
+    let register = names_no_such_register(sizes, event);
+    let link = names_no_such_link(sizes, event);
+    let none = goes_through_none(before, event);
+    let full = makes_without_a_free_record(before, event);
+    [
+        worker && register && !link,
+        worker && !register && link,
+        !worker && register && link,
+        worker && register && link,
+        register && !link && none,
+        !register && link && none,
+        worker && !register && full,
+        !worker && register && full,
+    ]
+}
+
 /// Situations that the rules are about and an answer number does not show.
 const SITUATIONS: [&str; 9] = [
     "store logs an overwritten record",
@@ -64,11 +99,12 @@ const SHARED: &str = "openings with a record in the reach of two workers (no eve
 pub struct Tally {
     pub traces: u64,
     whole: u64,
-    answers: [u64; 13],
+    answers: [u64; 15],
     /// Events answered with 0, by kind and by the phase they came in.
     done: [[u64; 7]; KINDS.len()],
     damages: BTreeMap<&'static str, u64>,
     makes: [u64; MAKES.len()],
+    wrongs: [u64; WRONGS.len()],
     situations: [u64; SITUATIONS.len()],
     shared: u64,
     last_maker: BTreeMap<Record, u8>,
@@ -78,6 +114,9 @@ impl Tally {
     /// One event, with the pool it came upon.
     pub fn event(&mut self, before: &Pool, event: Event, answer: Answer) {
         self.answers[usize::from(answer.number)] += 1;
+        for (times, came) in self.wrongs.iter_mut().zip(wrongs(before, event)) {
+            *times += u64::from(came);
+        }
         if answer.number != 0 {
             return;
         }
@@ -159,7 +198,8 @@ impl Tally {
     /// How often each situation came up.
     fn came_up(&self) -> impl Iterator<Item = (u64, &'static str)> + '_ {
         let makes = self.makes.iter().copied().zip(MAKES);
-        makes.chain(self.situations.iter().copied().zip(SITUATIONS))
+        let wrongs = self.wrongs.iter().copied().zip(WRONGS);
+        makes.chain(wrongs).chain(self.situations.iter().copied().zip(SITUATIONS))
     }
 
     /// What should have been reached and was not, and what was reached and cannot be.

@@ -44,8 +44,8 @@ struct Part {
     /// How many cases from the fixed seeds, and as many from the fresh one.
     cases: u64,
     run: fn(u64, &mut Reached) -> Result<(), String>,
-    /// Whether each kind of event has to have come in each phase with each of its numbers, and a make
-    /// upon each of `MAKES`.
+    /// Whether each kind of event has to have come in each phase with each of its numbers, a make
+    /// upon each of `MAKES`, and each of `WRONGS`.
     every_event: bool,
     situations: fn() -> Vec<String>,
 }

@@ -75,7 +75,7 @@ pub fn one(pool: &mut Pool, event: Event, reached: &mut Reached) -> Answer {
 /// A refusal as the library gives it.
 pub fn stop_of(refusal: Refusal, events: usize) -> Stop {
     let number = yuyarisun::Refusal::of_number(refusal.number.into());
-    Stop { refusal: number.expect("a refusal's number is 1 to 12"), place: refusal.offset, events }
+    Stop { refusal: number.expect("a field's refusal has a number"), place: refusal.offset, events }
 }
 
 /// What is done to the bytes of the events.

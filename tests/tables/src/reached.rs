@@ -4,7 +4,7 @@ use std::collections::BTreeMap;
 
 use second::event::Event;
 use second::pool::{Pool, Sizes};
-use second::tally::{makes, MAKES};
+use second::tally::{makes, wrongs, MAKES, WRONGS};
 
 use crate::runs::LARGEST;
 
@@ -27,9 +27,9 @@ pub fn kind(event: Event) -> &'static str {
 /// must be logged stands in no log, so each has fewer than S entries.
 fn numbers(kind: &str) -> &'static [u8] {
     match kind {
-        "make" => &[0, 3, 5],
-        "move" | "drop" => &[0, 3],
-        "load" | "store" => &[0, 3, 4],
+        "make" => &[0, 3, 13, 5],
+        "move" | "drop" => &[0, 3, 13],
+        "load" | "store" => &[0, 3, 13, 14, 4],
         _ => &[0],
     }
 }
@@ -39,12 +39,13 @@ pub struct Upon {
     phase: u8,
     /// Of a make, which of `MAKES`.
     makes: Option<[bool; MAKES.len()]>,
+    wrongs: [bool; WRONGS.len()],
 }
 
 impl Upon {
     pub fn of(pool: &Pool, event: Event) -> Upon {
         let makes = matches!(event, Event::Make { .. }).then(|| makes(pool));
-        Upon { phase: pool.phase, makes }
+        Upon { phase: pool.phase, makes, wrongs: wrongs(pool, event) }
     }
 }
 
@@ -62,10 +63,9 @@ pub struct Reached {
 impl Reached {
     pub fn event(&mut self, event: Event, upon: Upon, number: u8) {
         *self.events.entry((kind(event), upon.phase, number)).or_insert(0) += 1;
-        if let (0, Some(came)) = (number, upon.makes) {
-            let words = MAKES.into_iter().zip(came).filter(|(_, came)| *came).map(|(words, _)| words);
-            words.for_each(|words| self.situation(words));
-        }
+        let makes = upon.makes.filter(|_| number == 0).unwrap_or_default();
+        let came = MAKES.into_iter().zip(makes).chain(WRONGS.into_iter().zip(upon.wrongs));
+        came.filter(|(_, came)| *came).for_each(|(words, _)| self.situation(words));
     }
 
     pub fn situation(&mut self, words: &str) {
@@ -86,8 +86,8 @@ impl Reached {
         self.events.values().sum::<u64>() + self.refused
     }
 
-    /// Each kind in each phase with each of its numbers has to have come, and no other, and a make
-    /// upon each of `MAKES`; so have the situations.
+    /// Each kind in each phase with each of its numbers has to have come, and no other, a make upon
+    /// each of `MAKES`, and each of `WRONGS`; so have the situations.
     pub fn faults(&self, every_event: bool, situations: &[String]) -> Vec<String> {
         let mut faults = Vec::new();
         for kind in KINDS.into_iter().filter(|_| every_event) {
@@ -104,7 +104,7 @@ impl Reached {
                 faults.push(format!("reached: {kind} in phase {phase} answered {number}"));
             }
         }
-        let upon = MAKES.into_iter().filter(|_| every_event);
+        let upon = MAKES.into_iter().chain(WRONGS).filter(|_| every_event);
         for words in situations.iter().map(String::as_str).chain(upon) {
             if !self.situations.contains_key(words) {
                 faults.push(format!("never reached: {words}"));

@@ -41,7 +41,8 @@ pub fn any_event(kind: usize, sizes: Sizes, random: &mut Random) -> Event {
     }
 }
 
-/// A whole run, made by the habits of the second program's workers.
+/// A whole run, made by the habits of the second program's workers. Now and then comes any event, so that
+/// each is refused in each phase.
 pub fn run(seed: u64, reached: &mut Reached) -> Result<(), String> {
     let mut random = Random::new(seed);
     let sizes = choose_sizes(&mut random);
@@ -59,6 +60,7 @@ pub fn run(seed: u64, reached: &mut Reached) -> Result<(), String> {
                 plans[w].reverse();
             }
             let event = match plans[w].pop() {
+                _ if random.percent(5) => any_event(random.below(5), sizes, &mut random),
                 Some(event) if !random.percent(rate) => event,
                 _ => Event::Collect,
             };

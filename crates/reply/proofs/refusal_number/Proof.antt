@@ -41,6 +41,12 @@ enum-told-11 c = search needs
 enum-told-12 : tie.Need-enum-told-12
 enum-told-12 c = search needs
 
+enum-told-13 : tie.Need-enum-told-13
+enum-told-13 c = search needs
+
+enum-told-14 : tie.Need-enum-told-14
+enum-told-14 c = search needs
+
 returns : tie.Need-returns
 unfolding refusalNumber
 returns c = rw (c .enum-told .given .1) refl
@@ -89,6 +95,14 @@ returns-12 : tie.Need-returns-12
 unfolding refusalNumber
 returns-12 c = rw (c .enum-told12 .given .1) refl
 
+returns-13 : tie.Need-returns-13
+unfolding refusalNumber
+returns-13 c = rw (c .enum-told13 .given .1) refl
+
+returns-14 : tie.Need-returns-14
+unfolding refusalNumber
+returns-14 c = rw (c .enum-told14 .given .1) refl
+
 pub refusal-number-spec : {M : Type 1} → statement M
 refusal-number-spec =
     tie.close
@@ -105,6 +119,8 @@ refusal-number-spec =
     enum-told-10
     enum-told-11
     enum-told-12
+    enum-told-13
+    enum-told-14
     returns
     returns-2
     returns-3
@@ -116,4 +132,6 @@ refusal-number-spec =
     returns-9
     returns-10
     returns-11
-    returns-12)
+    returns-12
+    returns-13
+    returns-14)

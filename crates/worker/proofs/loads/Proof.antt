@@ -1,45 +1,65 @@
--- `worker::loads` meets its contract: it is `load-no-such`, `load-holds-none` or `loaded`. Assumes nothing.
+-- `worker::loads` meets its contract: it is `no-such`, `load-holds-none` or `loaded`. Assumes nothing.
 use Prim.Native.Nat.{ℕ, _+_, _*_, _<_}
 use denote.Ref.{at-last}
-use mathlib.Core.Path.{_≡_, sym, ap, _∙_}
-use mathlib.Core.Bool.{Bool, true, _&&_}
+use mathlib.Core.Path.{_≡_, refl, sym, ap, _∙_}
+use mathlib.Core.Bool.{true, _&&_}
 use native.Mathlib.Omega.{arith}
 use borrow.Author.Tests.{not-true, not-false}
 use lib.ListN.{getD, set}
+use Rattle.rules.specs.declared.Event.the-variants.{Load}
 use Rattle.rules.specs.declared.Answer.the-variants.{Loaded}
 use Rattle.rules.specs.declared.RecordNumber.{RecordNumber}
 use Rattle.rules.specs.declared.LinkNumber.{LinkNumber}
 use Rattle.rules.specs.Size.{linkNumber}
-use Rattle.rules.specs.Outcome.{hasWorker, hasRegister, hasLink}
-use Rattle.laws.proofs.Refusals.{RegisterThere, load-there}
+use Rattle.rules.specs.Outcome.{refusals}
+use Rattle.laws.proofs.Refusals.{RegisterThere, hasNumbers, numbers-there}
 use Rattle.tables.specs.Lie.{recordNumber}
-use Rattle.worker.proofs.Refused.{load-no-such, load-holds-none}
+use Rattle.worker.proofs.Refused.{no-such, load-holds-none}
 use Rattle.worker.proofs.Events.{register-low, base-stands, loaded}
 use Rattle.worker.specs.Lent.{loadsOn}
 use borrow.Author.Needs.{needs}
 use Rattle.worker.proofs.loads.Statement.{statement}
 use Rattle.worker.proofs.loads.Tie as tie
 
--- the test that worker, registers and link are there
-there : (c : tie.Else1) → let at = c .before .before .before .before .before .before .args in (hasWorker (at .s) (at .w) && hasRegister (at .s) (at .r) && hasRegister (at .s) (at .q) && hasLink (at .s) (at .f)) ≡ true
-there c =
-    let at = c .before .before .before .before .before .before .args in
-    ap (λ (b : Bool). b && hasRegister (at .s) (at .q) && hasLink (at .s) (at .f)) (sym (c .before .before .before .has-register .ensures)) ∙ not-false _ (c .if1 .left)
+abbrev start : tie.Else1 → tie.Start
+start c = c .before .before .before .before .before .before .before
 
-inside : (c : tie.Else1) → let at = c .before .before .before .before .before .before .args in RegisterThere (at .s) (at .w) (at .r) × (at .q < at .s .r) × (at .f < at .s .k)
-inside c = let at = c .before .before .before .before .before .before .args in load-there (at .s) (at .w) (at .r) (at .q) (at .f) (there c)
+-- the test that worker, registers and link are there
+there : (c : tie.Else1) → let at = start c .args in hasNumbers (at .s) (at .w) (at .q) (at .r) (at .f) ≡ true
+there c =
+    let asked = c .before in
+    (λ j. sym (asked .before .before .before .has-worker .ensures) j && (sym (asked .before .before .has-register .ensures) j && sym (asked .before .has-register2 .ensures) j) && sym (asked .has-link .ensures) j)
+    ∙ not-false _ (c .if1 .left)
+
+inside : (c : tie.Else1) → let at = start c .args in RegisterThere (at .s) (at .w) (at .q) × (at .r < at .s .r) × (at .f < at .s .k)
+inside c = let at = start c .args in numbers-there (at .s) (at .w) (at .q) (at .r) (at .f) (there c)
+
+has-worker-requires : tie.Need-has-worker-requires
+has-worker-requires c κs = search needs
 
 has-register-requires : tie.Need-has-register-requires
 has-register-requires c κs = search needs
 
+has-register-requires-2 : tie.Need-has-register-requires-2
+has-register-requires-2 c κs = search needs
+
+has-link-requires : tie.Need-has-link-requires
+has-link-requires c κs = search needs
+
+wrong-number-requires : tie.Need-wrong-number-requires
+wrong-number-requires c κs = search needs
+
 returns : tie.Need-returns
+unfolding refusals
 returns c t k known =
-    let at = c .before .before .before .before .before .before .args in
-    load-no-such known (at .w) (at .r) (at .q) (at .f)
-    (ap (λ (b : Bool). b && hasRegister (at .s) (at .q) && hasLink (at .s) (at .f)) (sym (c .before .before .before .has-register .ensures)) ∙ not-true _ (c .if1 .taken))
+    let asked = c .before .before in
+    let at = asked .before .before .before .before .before .before .args in
+    no-such known (Load (at .w) (at .r) (at .q) (at .f)) (asked .before .before .before .has-worker .ensures)
+    (λ j. asked .before .before .has-register .ensures j && asked .before .has-register2 .ensures j) (asked .has-link .ensures) refl
+    (not-true _ (c .before .if1 .taken)) (c .wrong-number .ensures)
 
 register-place-requires : tie.Need-register-place-requires
-register-place-requires c κs = (c .before .before .before .before .before .before .pre .2 .sizes, inside c .0 .worker, inside c .1)
+register-place-requires c κs = (start c .pre .2 .sizes, inside c .0 .worker, inside c .0 .register)
 
 mul-base : tie.Need-mul-base
 mul-base c = search needs
@@ -50,20 +70,19 @@ slice-read-base c = search needs
 returns-2 : tie.Need-returns-2
 returns-2 c t k known =
     let tested = c .before .before .before in
-    let at = tested .before .before .before .before .before .before .args in
+    let at = start tested .args in
     load-holds-none known (at .w) (at .r) (at .q) (at .f) (there tested)
-    (ap (λ (a : RecordNumber). a .0) (base-stands known (at .w) (at .r) (at .q) (at .f) (there tested))
+    (ap (λ (a : RecordNumber). a .0) (base-stands known (at .w) (at .q) (at .r) (at .f) (there tested))
     ∙ ap (λ (i : ℕ). getD (at .registers .now) i 0) (sym (c .before .before .register-place .ensures .0))
     ∙ c .if2 .taken)
 
 link-number-requires : tie.Need-link-number-requires
 link-number-requires c κs =
     let tested = c .before .before .before in
-    let start = tested .before .before .before .before .before .before in
-    let at = start .args in (
-      start .pre .2 .sizes,
+    let at = start tested .args in (
+      start tested .pre .2 .sizes,
       omega arith,
-      omega (arith, register-low (start .pre .2) (at .w) (at .q) (inside tested .0 .worker) (inside tested .1), ap (λ (i : ℕ). getD (at .registers .now) i 0) (c .before .before .register-place .ensures .0)),
+      omega (arith, register-low (start tested .pre .2) (at .w) (at .q) (inside tested .0 .worker) (inside tested .0 .register), ap (λ (i : ℕ). getD (at .registers .now) i 0) (c .before .before .register-place .ensures .0)),
       inside tested .2,
     )
 
@@ -79,7 +98,7 @@ shared-slice-read-a c = search needs
 register-place-requires-2 : tie.Need-register-place-requires-2
 register-place-requires-2 c κs =
     let tested = c .before .before .before .before .before .before in
-    (tested .before .before .before .before .before .before .pre .2 .sizes, inside tested .0 .worker, inside tested .0 .register)
+    (start tested .pre .2 .sizes, inside tested .0 .worker, inside tested .1)
 
 mul-registers : tie.Need-mul-registers
 mul-registers c = search needs
@@ -93,7 +112,7 @@ same-length c = search needs
 returns-3 : tie.Need-returns-3
 returns-3 c t k known =
     let tested = c .before .before .before .before .before .before .before in
-    let at = tested .before .before .before .before .before .before .args in
+    let at = start tested .args in
     let from = c .before .before .before .before .before .before .register-place .ensures .0 in
     let link : linkNumber (at .s) (recordNumber (getD (at .registers .now) (at .w * at .s .r + at .q) 0)) (at .f) .0 ≡ c .before .before .wide .result =
     ap (λ (i : ℕ). linkNumber (at .s) (recordNumber (getD (at .registers .now) i 0)) (at .f) .0) (sym from)
@@ -109,7 +128,11 @@ pub loads-spec : {M : Type 1} → statement M
 loads-spec =
     tie.close
     (tie.spec
+    has-worker-requires
     has-register-requires
+    has-register-requires-2
+    has-link-requires
+    wrong-number-requires
     returns
     register-place-requires
     mul-base

@@ -1,23 +1,24 @@
--- `worker::makes` meets its contract: it is `make-no-such`, `make-none-free` or `made`. Assumes nothing.
+-- `worker::makes` meets its contract: it is `no-such-register`, `make-none-free` or `made`. Assumes nothing.
 use Prim.Native.Nat.{ℕ, _+_, _-_, _*_, _<_}
-use mathlib.Core.Path.{_≡_, sym, ap, _∙_}
+use mathlib.Core.Path.{_≡_, refl, sym, ap, _∙_}
 use mathlib.Core.Bool.{true, _&&_}
 use native.Mathlib.Omega.{arith}
 use borrow.Author.Tests.{not-true, not-false}
 use denote.Ref.{at-last}
 use lib.ListN.{length, set, length-set}
 use Rattle.rules.specs.declared.RecordNumber.{RecordNumber}
+use Rattle.rules.specs.declared.Event.the-variants.{Make}
 use Rattle.rules.specs.declared.Answer.the-variants.{Made}
 use Rattle.rules.specs.declared.Collector.{Collector}
 use Rattle.rules.specs.Worker.{chosen}
-use Rattle.rules.specs.Outcome.{hasWorker, hasRegister}
+use Rattle.rules.specs.Outcome.{hasWorker, hasRegister, refusals}
 use Rattle.tables.specs.Tables.{Tables}
 use Rattle.tables.specs.Lie.{poolOf}
 use Rattle.tables.specs.Known.{Known}
 use Rattle.laws.proofs.Number.{bounds}
 use Rattle.laws.proofs.Refusals.{register-there}
 use Rattle.worker.specs.Lent.{makesOn}
-use Rattle.worker.proofs.Refused.{make-no-such, make-none-free}
+use Rattle.worker.proofs.Refused.{no-such-register, make-none-free}
 use Rattle.worker.proofs.Events.{marks-stand, last-stands, last-low, chosen-inside, made}
 use borrow.Author.Needs.{needs}
 use Rattle.worker.proofs.makes.Statement.{statement}
@@ -28,22 +29,30 @@ abbrev tested : tie.After-chosen → tie.Else1
 tested c = c .before .before .before .before
 
 abbrev start : tie.After-chosen → tie.Start
-start c = tested c .before .before .before .before .before
+start c = tested c .before .before .before .before .before .before
 
 -- the test that worker and register are there
-there : (c : tie.Else1) → let at = c .before .before .before .before .before .args in (hasWorker (at .s) (at .w) && hasRegister (at .s) (at .r)) ≡ true
-there c = sym (c .before .has-register .ensures) ∙ not-false _ (c .if1 .left)
+there : (c : tie.Else1) → let at = c .before .before .before .before .before .before .args in (hasWorker (at .s) (at .w) && hasRegister (at .s) (at .r)) ≡ true
+there c = (λ j. sym (c .before .before .has-worker .ensures) j && sym (c .before .has-register .ensures) j) ∙ not-false _ (c .if1 .left)
+
+has-worker-requires : tie.Need-has-worker-requires
+has-worker-requires c κs = search needs
 
 has-register-requires : tie.Need-has-register-requires
 has-register-requires c κs = search needs
 
+wrong-number-requires : tie.Need-wrong-number-requires
+wrong-number-requires c κs = search needs
+
 returns : tie.Need-returns
+unfolding refusals
 returns c t k known =
-    let at = c .before .before .before .before .before .args in
-    make-no-such known (at .w) (at .r) (sym (c .before .has-register .ensures) ∙ not-true _ (c .if1 .taken))
+    let asked = c .before .before in
+    let at = asked .before .before .before .before .before .args in
+    no-such-register known (Make (at .w) (at .r)) (asked .before .has-worker .ensures) (asked .has-register .ensures) refl (not-true _ (c .before .if1 .taken)) (c .wrong-number .ensures)
 
 last-place-requires : tie.Need-last-place-requires
-last-place-requires c κs = c .before .before .before .before .before .pre .2 .sizes
+last-place-requires c κs = c .before .before .before .before .before .before .pre .2 .sizes
 
 mul-chosen : tie.Need-mul-chosen
 mul-chosen c = search needs
@@ -51,12 +60,12 @@ mul-chosen c = search needs
 slice-read-chosen : tie.Need-slice-read-chosen
 slice-read-chosen c =
     let at = c .before .before in
-    omega (arith, at .last-place .ensures, at .before .before .before .before .before .before .pre .2 .exact .registers)
+    omega (arith, at .last-place .ensures, at .before .before .before .before .before .before .before .pre .2 .exact .registers)
 
 chosen-requires : tie.Need-chosen-requires
 chosen-requires c κs =
     let at = c .before .before in
-    let start = at .before .before .before .before .before .before in
+    let start = at .before .before .before .before .before .before .before in
     let known = start .pre .2 in
     let most : length (start .args .used .now) ≡ start .args .s .n = known .exact .used in
     (omega (arith, most, bounds (start .args .s) (known .sizes) .n-most), omega (arith, most, last-low known (at .last-place .result) (at .last-place .ensures)))
@@ -162,7 +171,9 @@ pub makes-spec : {M : Type 1} → statement M
 makes-spec =
     tie.close
     (tie.spec
+    has-worker-requires
     has-register-requires
+    wrong-number-requires
     returns
     last-place-requires
     mul-chosen

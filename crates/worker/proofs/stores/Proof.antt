@@ -1,6 +1,6 @@
 -- `worker::stores` meets its contract: it is one of three refusals, or `stored`. Assumes nothing.
 use Prim.Native.Nat.{ℕ, _+_, _*_}
-use mathlib.Core.Path.{_≡_, sym, ap, _∙_}
+use mathlib.Core.Path.{_≡_, refl, sym, ap, _∙_}
 use mathlib.Core.Bool.{Bool, true, false, not, _&&_}
 use native.Mathlib.Omega.{arith}
 use borrow.Author.Tests.{not-true, not-false, leb-false}
@@ -8,29 +8,31 @@ use lib.Dec.{leb}
 use lib.ListN.{getD, set}
 use Rattle.rules.specs.declared.RecordNumber.{RecordNumber}
 use Rattle.rules.specs.declared.LinkNumber.{LinkNumber}
+use Rattle.rules.specs.declared.Event.the-variants.{Store}
 use Rattle.rules.specs.declared.Answer.the-variants.{Stored}
 use Rattle.rules.specs.Size.{links, linkNumber}
-use Rattle.rules.specs.Outcome.{hasWorker, hasRegister, hasLink}
-use Rattle.laws.proofs.Refusals.{store-there}
+use Rattle.rules.specs.Outcome.{refusals}
+use Rattle.laws.proofs.Refusals.{hasNumbers, numbers-there}
 use Rattle.tables.specs.Tables.{Tables, putHeld, putValues}
 use Rattle.tables.specs.Lie.{isOn, recordNumber}
 use Rattle.worker.specs.Lent.{storesOn, loggedOn, heldAfter}
 use Rattle.tables.specs.Event.{Called}
-use Rattle.worker.proofs.Refused.{store-no-such, store-holds-none, store-log-full}
-use Rattle.worker.proofs.Events.{register-low}
-use Rattle.worker.proofs.Store.{store-base, full-stands, stored}
+use Rattle.worker.proofs.Refused.{no-such, store-holds-none, store-log-full}
+use Rattle.worker.proofs.Events.{register-low, base-stands}
+use Rattle.worker.proofs.Store.{full-stands, stored}
 use borrow.Author.Needs.{needs}
 use Rattle.worker.proofs.stores.Statement.{statement}
 use Rattle.worker.proofs.stores.Tie as tie
 
 abbrev start : tie.Else1 → tie.Start
-start c = c .before .before .before .before .before .before .before .before .before .before .before
+start c = c .before .before .before .before .before .before .before .before .before .before .before .before
 
 -- the test that worker, registers and link are there
-there : (c : tie.Else1) → let at = start c .args in (hasWorker (at .s) (at .w) && hasRegister (at .s) (at .q) && hasLink (at .s) (at .f) && hasRegister (at .s) (at .r)) ≡ true
+there : (c : tie.Else1) → let at = start c .args in hasNumbers (at .s) (at .w) (at .q) (at .r) (at .f) ≡ true
 there c =
-    let at = start c .args in
-    ap (λ (b : Bool). b && hasLink (at .s) (at .f) && hasRegister (at .s) (at .r)) (sym (c .before .before .before .has-register .ensures)) ∙ not-false _ (c .if1 .left)
+    let asked = c .before in
+    (λ j. sym (asked .before .before .before .has-worker .ensures) j && (sym (asked .before .before .has-register .ensures) j && sym (asked .before .has-register2 .ensures) j) && sym (asked .has-link .ensures) j)
+    ∙ not-false _ (c .if1 .left)
 
 -- the register that is read is the one of the event
 base : (c : tie.After-register-place) → let at = start (c .before) .args in getD (at .registers .now) (at .w * at .s .r + at .q) 0 ≡ getD (at .registers .now) (c .register-place .result) 0
@@ -49,19 +51,34 @@ free : (c : tie.Else3) → let at = start (c .before .before .before .before .be
     (not (isOn (getD (at .changed .now) (l .0) 0)) && leb (links (at .s)) (getD (at .lengths .now) (at .w) 0)) ≡ false
 free c = sym (c .before .log-full .ensures) ∙ c .if3 .left
 
+has-worker-requires : tie.Need-has-worker-requires
+has-worker-requires c κs = search needs
+
 has-register-requires : tie.Need-has-register-requires
 has-register-requires c κs = search needs
 
+has-register-requires-2 : tie.Need-has-register-requires-2
+has-register-requires-2 c κs = search needs
+
+has-link-requires : tie.Need-has-link-requires
+has-link-requires c κs = search needs
+
+wrong-number-requires : tie.Need-wrong-number-requires
+wrong-number-requires c κs = search needs
+
 returns : tie.Need-returns
+unfolding refusals
 returns c t k known =
-    let at = c .before .before .before .before .before .before .before .before .before .before .before .args in
-    store-no-such known (at .w) (at .q) (at .f) (at .r)
-    (ap (λ (b : Bool). b && hasLink (at .s) (at .f) && hasRegister (at .s) (at .r)) (sym (c .before .before .before .has-register .ensures)) ∙ not-true _ (c .if1 .taken))
+    let asked = c .before .before in
+    let at = asked .before .before .before .before .before .before .before .before .before .before .before .args in
+    no-such known (Store (at .w) (at .q) (at .f) (at .r)) (asked .before .before .before .has-worker .ensures)
+    (λ j. asked .before .before .has-register .ensures j && asked .before .has-register2 .ensures j) (asked .has-link .ensures) refl
+    (not-true _ (c .before .if1 .taken)) (c .wrong-number .ensures)
 
 register-place-requires : tie.Need-register-place-requires
 register-place-requires c κs =
     let at = start c .args in
-    let inside = store-there (at .s) (at .w) (at .q) (at .f) (at .r) (there c) in
+    let inside = numbers-there (at .s) (at .w) (at .q) (at .r) (at .f) (there c) in
     (start c .pre .2 .sizes, inside .0 .worker, inside .0 .register)
 
 mul-base : tie.Need-mul-base
@@ -75,17 +92,17 @@ returns-2 c t k known =
     let tested = c .before .before .before in
     let at = start tested .args in
     store-holds-none known (at .w) (at .q) (at .f) (at .r) (there tested)
-    (ap (λ (a : RecordNumber). a .0) (store-base known (at .w) (at .q) (at .f) (at .r) (there tested)) ∙ base (c .before .before) ∙ c .if2 .taken)
+    (ap (λ (a : RecordNumber). a .0) (base-stands known (at .w) (at .q) (at .r) (at .f) (there tested)) ∙ base (c .before .before) ∙ c .if2 .taken)
 
 link-number-requires : tie.Need-link-number-requires
 link-number-requires c κs =
     let tested = c .before .before .before in
     let at = start tested .args in
-    let inside = store-there (at .s) (at .w) (at .q) (at .f) (at .r) (there tested) in (
+    let inside = numbers-there (at .s) (at .w) (at .q) (at .r) (at .f) (there tested) in (
       start tested .pre .2 .sizes,
       omega arith,
       omega (arith, register-low (start tested .pre .2) (at .w) (at .q) (inside .0 .worker) (inside .0 .register), base (c .before .before)),
-      inside .1,
+      inside .2,
     )
 
 log-full-requires : tie.Need-log-full-requires
@@ -93,7 +110,7 @@ log-full-requires c κs =
     let tested = c .before .before .before .before .before .before in
     let at = start tested .args in
     let known = start tested .pre .2 in
-    let inside = store-there (at .s) (at .w) (at .q) (at .f) (at .r) (there tested) in (
+    let inside = numbers-there (at .s) (at .w) (at .q) (at .r) (at .f) (there tested) in (
       known .sizes,
       omega (arith, c .before .before .link-number .ensures .1, known .exact .changed),
       omega (arith, inside .0 .worker, known .exact .lengths),
@@ -111,7 +128,7 @@ returns-3 c t k known =
     let tested = linked .before .before .before .before in
     let at = start tested .args in
     store-log-full known (at .w) (at .q) (at .f) (at .r) (there tested)
-    (λ e. linked .before .if2 .left (sym (base (linked .before .before .before)) ∙ ap (λ (a : RecordNumber). a .0) (sym (store-base known (at .w) (at .q) (at .f) (at .r) (there tested))) ∙ e))
+    (λ e. linked .before .if2 .left (sym (base (linked .before .before .before)) ∙ ap (λ (a : RecordNumber). a .0) (sym (base-stands known (at .w) (at .q) (at .r) (at .f) (there tested))) ∙ e))
     (full-stands known (at .w) (at .q) (at .f) (at .r) (there tested)
     ∙ ap (λ (l : LinkNumber). not (isOn (getD (at .changed .now) (l .0) 0)) && leb (links (at .s)) (getD (at .lengths .now) (at .w) 0)) (link linked)
     ∙ sym (c .before .log-full .ensures)
@@ -133,8 +150,8 @@ register-place-requires-2 : tie.Need-register-place-requires-2
 register-place-requires-2 c κs =
     let tested = c .before .before .before .before .before .before .before .before .before .before in
     let at = start tested .args in
-    let inside = store-there (at .s) (at .w) (at .q) (at .f) (at .r) (there tested) in
-    (start tested .pre .2 .sizes, inside .0 .worker, inside .2)
+    let inside = numbers-there (at .s) (at .w) (at .q) (at .r) (at .f) (there tested) in
+    (start tested .pre .2 .sizes, inside .0 .worker, inside .1)
 
 mul-new : tie.Need-mul-new
 mul-new c =
@@ -159,7 +176,7 @@ logged-requires c κs =
     let tested = linked .before .before .before .before in
     let at = start tested .args in
     let known = start tested .pre .2 in
-    let inside = store-there (at .s) (at .w) (at .q) (at .f) (at .r) (there tested) in
+    let inside = numbers-there (at .s) (at .w) (at .q) (at .r) (at .f) (there tested) in
     let mark : c .before .before .before .is-on .result ≡ isOn (getD (at .changed .now) (linked .link-number .result .0) 0) =
     c .before .before .before .is-on .ensures ∙ ap (λ (i : ℕ). isOn (getD (at .changed .now) i 0)) (c .before .before .before .before .before .before .before .before .wide .ensures) in
     record {
@@ -190,9 +207,9 @@ snooped-requires c κs =
     let tested = read .before .before .before .before .before .before .before .before .before .before .before in
     let at = start tested .args in
     let known = start tested .pre .2 in
-    let inside = store-there (at .s) (at .w) (at .q) (at .f) (at .r) (there tested) in (
+    let inside = numbers-there (at .s) (at .w) (at .q) (at .r) (at .f) (there tested) in (
       omega (arith, inside .0 .worker, known .exact .snoops),
-      omega (arith, register-low known (at .w) (at .r) (inside .0 .worker) (inside .2), known .exact .held, ap (λ (i : ℕ). getD (at .registers .now) i 0) (read .register-place2 .ensures .0)),
+      omega (arith, register-low known (at .w) (at .r) (inside .0 .worker) (inside .1), known .exact .held, ap (λ (i : ℕ). getD (at .registers .now) i 0) (read .register-place2 .ensures .0)),
     )
 
 same-length-3 : tie.Need-same-length-3
@@ -245,7 +262,11 @@ pub stores-spec : {M : Type 1} → statement M
 stores-spec =
     tie.close
     (tie.spec
+    has-worker-requires
     has-register-requires
+    has-register-requires-2
+    has-link-requires
+    wrong-number-requires
     returns
     register-place-requires
     mul-base
