@@ -7,7 +7,8 @@
  *     yuyarisun_pool_fresh, _sound, _free_records
  *     yuyarisun_pool_events, _trace              many events at once, and a whole trace
  *     yuyarisun_put_make, .._collect             an event as the bytes that these take
- *     yuyarisun_make, .._trace                   the same calls as the library has them, each table a pointer and a length
+ *     yuyarisun_join_parts                       the parts of a trace, one for each worker and one for the collector, joined
+ *     yuyarisun_make, .._trace, _join            the same calls as the library has them, each table a pointer and a length
  *
  * Who owns what. The caller owns every table and lends it for the time of a call: the library allocates nothing, frees nothing, keeps no pointer and has
  * no state of its own. Two calls on two pools may so run at once on two threads; two calls on one pool may not.
@@ -30,7 +31,8 @@ extern "C" {
 
 /* ---- The numbers that a call answers ---- */
 
-/* An event's call asks for 1 first, then for 2, 3, 13, 14, 4, and then for 5 or 6. 7 to 12 are given where many events or a trace are read from bytes. */
+/* An event's call asks for 1 first, then for 2, 3, 13, 14, 4, and then for 5 or 6. 7 to 12 are given where many events or a trace are read from bytes, and where parts
+ * are joined, which asks for 15 and 16 last. */
 enum yuyarisun_number {
     YUYARISUN_DONE = 0,
     YUYARISUN_WRONG_SIZE = 1,
@@ -46,7 +48,9 @@ enum yuyarisun_number {
     YUYARISUN_EXTRA_BYTE = 11,
     YUYARISUN_WRONG_COUNT = 12,
     YUYARISUN_NO_SUCH_REGISTER = 13,
-    YUYARISUN_NO_SUCH_LINK = 14
+    YUYARISUN_NO_SUCH_LINK = 14,
+    YUYARISUN_SIZES_DIFFER = 15,
+    YUYARISUN_OUTPUT_SHORT = 16
 };
 
 /* What a number says: a constant text, never null. */
@@ -68,6 +72,8 @@ static inline const char *yuyarisun_words(uint16_t number)
     case YUYARISUN_WRONG_COUNT: return "end field's count is not the last step number";
     case YUYARISUN_NO_SUCH_REGISTER: return "no such register";
     case YUYARISUN_NO_SUCH_LINK: return "no such link";
+    case YUYARISUN_SIZES_DIFFER: return "two parts differ in sizes";
+    case YUYARISUN_OUTPUT_SHORT: return "the output is too short";
     default: return "no number that a call answers";
     }
 }
@@ -251,6 +257,23 @@ uint16_t yuyarisun_events(YUYARISUN_LENT, const uint8_t *bytes, size_t bytes_len
 uint16_t yuyarisun_trace(YUYARISUN_LENT_TABLES, const uint8_t *bytes, size_t bytes_length, uint16_t *answers, size_t answers_length, size_t *events,
                          uint16_t *free_records, size_t *place);
 
+/* Joins the parts of a trace, one for each worker and one for the collector. They lie end to end in `parts`, and `lengths` has how long each is; the joined trace
+ * goes into `out`. It has the first part's sizes field, then every event of every part once, byte for byte, by step number as a number, then its end field. So
+ * parts_length bytes are always enough for it: its events are those of the parts, its sizes field is the first part's, and its end field is as long as that part's.
+ *
+ * Answers 0 with *length how long the joined trace is and *place 0; what lies behind it in `out` stays as it was. Else the answer is the first of these, *length
+ * is 0, and nothing is written:
+ *     1           there are not one to nine parts, or their lengths don't add up to parts_length, as numbers: a sum that wraps does not
+ *     1, 7 to 12  of the first part with a field that is refused, as in a trace, but 10 where its step number is not above the part's previous one, 12 where the
+ *                 count of its end field is not how many events the part holds, and 9 and 11 by the end of the part
+ *     15          two parts differ in sizes
+ *     10          the joined step numbers are not 1, 2, 3 and so on
+ *     16          `out` is too short
+ * *place is where in `parts` the field begins that is refused (11: where the extra byte is), else 0. The call keeps no pointer, and nothing of the three may
+ * overlap. */
+uint16_t yuyarisun_join(const uint8_t *parts, size_t parts_length, const uint64_t *lengths, size_t lengths_length, uint8_t *out, size_t out_length,
+                        size_t *length, size_t *place);
+
 /* ---- One line for an event ---- */
 
 /* A pool's tables, its sizes and the collector's record, as a call is lent them. */
@@ -428,6 +451,28 @@ static inline uint8_t *yuyarisun_put_store(uint8_t *at, uint32_t step, uint8_t w
 static inline uint8_t *yuyarisun_put_collect(uint8_t *at, uint32_t step)
 {
     return yuyarisun_put_event(at, step, 0x20, 4, 0, 0, 0, 0);
+}
+
+/* ---- Parts of a trace ---- */
+
+/* What joining is answered: the number, 0 if the joined trace was written; how long it is; where a field is refused. */
+typedef struct yuyarisun_join_answer {
+    uint16_t number;
+    size_t length;
+    size_t place;
+} yuyarisun_join_answer;
+
+/* yuyarisun_join, answered at once. `parts`, `lengths` and `out` may be null where their length is 0. */
+static inline yuyarisun_join_answer yuyarisun_join_parts(const uint8_t *parts, size_t parts_length, const uint64_t *lengths, size_t lengths_length,
+                                                         uint8_t *out, size_t out_length)
+{
+    yuyarisun_join_answer answer;
+    const uint8_t no_byte = 0;
+    const uint64_t no_length = 0;
+    uint8_t no_room = 0;
+    answer.number = yuyarisun_join(parts_length == 0 ? &no_byte : parts, parts_length, lengths_length == 0 ? &no_length : lengths, lengths_length,
+                                   out_length == 0 ? &no_room : out, out_length, &answer.length, &answer.place);
+    return answer;
 }
 
 #undef YUYARISUN_LENT_TABLES

@@ -1,6 +1,6 @@
 /* Holds the header's names and lengths against what the library leaves in the tables: a few events, after each of which every table that they touch is
- * looked at under its own name; then many events at once, and a whole trace. For C99 and C++; tests/library builds and runs it. It prints nothing, or the
- * line that does not hold. */
+ * looked at under its own name; then many events at once, a whole trace, and parts of one. For C99 and C++; tests/library builds and runs it. It prints nothing,
+ * or the line that does not hold. */
 #include <stdio.h>
 #include <string.h>
 
@@ -21,7 +21,7 @@ static uint16_t largest[YUYARISUN_TOTAL_LENGTH(1024, 8, 8, 16)];
 /* The words of each number, and of none. */
 static int words(void)
 {
-    for (uint16_t number = 0; number <= 14; number++)
+    for (uint16_t number = 0; number <= 16; number++)
         for (uint16_t other = 0; other <= number; other++)
             HOLD((strcmp(yuyarisun_words(number), yuyarisun_words(other)) == 0) == (number == other));
     HOLD(strcmp(yuyarisun_words(YUYARISUN_DONE), "done") == 0);
@@ -29,7 +29,9 @@ static int words(void)
     HOLD(strcmp(yuyarisun_words(YUYARISUN_NO_SUCH_WORKER), "no such worker") == 0);
     HOLD(strcmp(yuyarisun_words(YUYARISUN_NO_SUCH_REGISTER), "no such register") == 0);
     HOLD(strcmp(yuyarisun_words(YUYARISUN_NO_SUCH_LINK), "no such link") == 0);
-    HOLD(strcmp(yuyarisun_words(15), yuyarisun_words(65535)) == 0);
+    HOLD(strcmp(yuyarisun_words(YUYARISUN_SIZES_DIFFER), "two parts differ in sizes") == 0);
+    HOLD(strcmp(yuyarisun_words(YUYARISUN_OUTPUT_SHORT), "the output is too short") == 0);
+    HOLD(strcmp(yuyarisun_words(17), yuyarisun_words(65535)) == 0);
     return 0;
 }
 
@@ -195,7 +197,59 @@ static int traced(void)
     return 0;
 }
 
+static int refused(yuyarisun_join_answer answer, uint16_t number, size_t place)
+{
+    return answer.number == number && answer.length == 0 && answer.place == place;
+}
+
+/* Two parts, with the steps 1 and 3 and with step 2, and each way to refuse them. */
+static int joined(void)
+{
+    uint8_t parts[2 * (11 + 2 * YUYARISUN_EVENT_MOST_BYTES + 7)];
+    const uint8_t sizes[11] = {0x01, 0, 8, 0, 2, 0, 1, 0, 1, 0, 1}, end[7] = {0x7f, 0, 4, 0, 0, 0, 2};
+    uint64_t lengths[2] = {11 + 9 + 7 + 7, 11 + 9 + 7};
+    uint8_t out[64], untouched[64];
+    uint8_t *at = parts;
+    memcpy(at, sizes, sizeof sizes);
+    at = yuyarisun_put_collect(yuyarisun_put_make(at + sizeof sizes, 1, 0, 0), 3);
+    memcpy(at, end, sizeof end);
+    uint8_t *const second = at + sizeof end;
+    memcpy(second, sizes, sizeof sizes);
+    at = yuyarisun_put_drop(second + sizeof sizes, 2, 0, 0);
+    memcpy(at, end, sizeof end);
+    at[6] = 1;
+    const size_t all = (size_t)(at + sizeof end - parts);
+    HOLD(all == lengths[0] + lengths[1]);
+    memset(out, 0xff, sizeof out);
+    memset(untouched, 0xff, sizeof untouched);
+
+    yuyarisun_join_answer answer = yuyarisun_join_parts(parts, all, lengths, 2, out, 42);
+    HOLD(refused(answer, YUYARISUN_OUTPUT_SHORT, 0) && memcmp(out, untouched, sizeof out) == 0);
+    answer = yuyarisun_join_parts(parts, all, lengths, 2, out, sizeof out);
+    HOLD(answer.number == YUYARISUN_DONE && answer.length == 43 && answer.place == 0);
+    HOLD(memcmp(out, parts, 20) == 0 && memcmp(out + 20, second + 11, 9) == 0 && memcmp(out + 29, parts + 20, 7) == 0);
+    HOLD(memcmp(out + 36, end, 6) == 0 && out[42] == 3 && memcmp(out + 43, untouched, sizeof out - 43) == 0);
+
+    memset(out, 0xff, sizeof out);
+    HOLD(refused(yuyarisun_join_parts(parts, all, lengths, 1, out, sizeof out), YUYARISUN_WRONG_SIZE, 0));
+    lengths[1]--;
+    HOLD(refused(yuyarisun_join_parts(parts, all, lengths, 2, out, sizeof out), YUYARISUN_WRONG_SIZE, 0));
+    HOLD(refused(yuyarisun_join_parts(parts, all - 1, lengths, 2, out, sizeof out), YUYARISUN_STOPS_SHORT, lengths[0] + 20));
+    lengths[1]++;
+    HOLD(refused(yuyarisun_join_parts(second, lengths[1], lengths + 1, 1, out, sizeof out), YUYARISUN_WRONG_STEP, 0));
+    at[6] = 2;
+    HOLD(refused(yuyarisun_join_parts(parts, all, lengths, 2, out, sizeof out), YUYARISUN_WRONG_COUNT, lengths[0] + 20));
+    at[6] = 1;
+    second[4] = 3;
+    HOLD(refused(yuyarisun_join_parts(parts, all, lengths, 2, out, sizeof out), YUYARISUN_SIZES_DIFFER, 0));
+    HOLD(refused(yuyarisun_join_parts(NULL, 0, NULL, 0, NULL, 0), YUYARISUN_WRONG_SIZE, 0));
+    lengths[0] = 0;
+    HOLD(refused(yuyarisun_join_parts(NULL, 0, lengths, 1, NULL, 0), YUYARISUN_STOPS_SHORT, 0));
+    HOLD(memcmp(out, untouched, sizeof out) == 0);
+    return 0;
+}
+
 int main(void)
 {
-    return words() || laid_out() || named() || many() || traced();
+    return words() || laid_out() || named() || many() || traced() || joined();
 }

@@ -5,6 +5,7 @@
 //! - `flat`       a pool in flat arrays, its events and collector steps
 //! - `check`      "A sound pool" on lent tables, and reading these tables once
 //! - `bin/flat`   the replay program over `flat`
+//! - `parts`      a plain merge of the parts of a trace
 //!
 //! What is measured
 //! - the crate `yuyarisun`, over the static library
@@ -25,6 +26,7 @@ pub mod clock;
 pub mod counted;
 pub mod flat;
 pub mod made;
+pub mod parts;
 pub mod random;
 pub mod situation;
 pub mod table;

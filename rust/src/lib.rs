@@ -10,6 +10,7 @@
 //! - [`Collector`] the collector's own record: its phase, its position, how many cycles have closed
 //! - [`Tables`], [`Lent`]  the tables of a pool in the open, and the checked calls on them
 //! - [`replay()`]  a whole trace from its bytes, on tables of its own; [`Field`] for those who write one
+//! - [`join()`]    the parts of a trace, one for each worker and one for the collector, joined to it
 //!
 //! ```
 //! use yuyarisun::{Pool, Sizes};
@@ -38,6 +39,7 @@
 //     pool               a pool that owns its tables
 //     trace              what is answered to events and to traces, and the checked calls
 //     lent               tables that are in the open
+//     join               parts of a trace, joined to it
 //     raw                the library on slices and numbers, and every `unsafe`
 //     event              events, records and fields as values
 //     refusal, sizes     why a call refuses; sizes, tables and the collector's record
@@ -47,6 +49,7 @@
 #![deny(unsafe_op_in_unsafe_fn)]
 
 mod event;
+mod join;
 mod lent;
 mod pool;
 mod raw;
@@ -56,6 +59,7 @@ mod sizes;
 mod trace;
 
 pub use event::{Event, Field, Record};
+pub use join::{join, join_into, Unjoined, Within};
 pub use lent::Lent;
 pub use pool::Pool;
 pub use refusal::Refusal;

@@ -2,6 +2,7 @@
 //!
 //! - `event`, `fresh`, `is_sound`, `free_records`, `events`, `trace`  the calls that take any tables,
 //!   each answered in numbers
+//! - `join`  the call that takes any parts of a trace, answered in numbers
 //! - `Sound`  tables that are known to be a sound pool's, and the event that checks nothing
 //!
 //! What a caller of the library owes. A table is lent as a pointer and how many numbers it points
@@ -80,6 +81,16 @@ lent_tables! { *const u16:
 
 extern "C" {
     fn yuyarisun_free_records(used: *const u16, used_length: usize) -> usize;
+    fn yuyarisun_join(
+        parts: *const u8,
+        parts_length: usize,
+        lengths: *const u64,
+        lengths_length: usize,
+        out: *mut u8,
+        out_length: usize,
+        length: *mut usize,
+        place: *mut usize,
+    ) -> u16;
 }
 
 /// Calls a function with what comes first, with the tables by way of `$pointer`, and with what it
@@ -233,6 +244,36 @@ pub(crate) fn trace(
 pub(crate) fn free_records(used: &[u16]) -> usize {
     // SAFETY: a public function, lent one slice to read alone.
     unsafe { yuyarisun_free_records(used.as_ptr(), used.len()) }
+}
+
+/// Parts of a trace, joined.
+pub(crate) struct Joined {
+    /// 0 if the joined trace was written, else why it was not.
+    pub number: u16,
+    /// How long it is, else 0.
+    pub length: usize,
+    /// Where the field begins that was refused, else 0.
+    pub place: usize,
+}
+
+/// Joins parts that lie end to end and have these lengths.
+pub(crate) fn join(parts: &[u8], lengths: &[u64], out: &mut [u8]) -> Joined {
+    let (mut length, mut place) = (0, 0);
+    // SAFETY: a public function, lent two slices to read alone, behind `&`s, and one to write behind a
+    // `&mut`, each with its own length; the others are locals.
+    let number = unsafe {
+        yuyarisun_join(
+            parts.as_ptr(),
+            parts.len(),
+            lengths.as_ptr(),
+            lengths.len(),
+            out.as_mut_ptr(),
+            out.len(),
+            &mut length,
+            &mut place,
+        )
+    };
+    Joined { number, length, place }
 }
 
 /// Tables that are known to be a sound pool's: sizes in range, exact lengths, and every clause of

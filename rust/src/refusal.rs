@@ -1,4 +1,4 @@
-//! Why a call refuses: the numbers 1 to 14 of documents 01 and 02, with their words.
+//! Why a call refuses: the numbers of documents 01 and 02, with their words.
 
 use std::fmt;
 
@@ -46,11 +46,15 @@ pub enum Refusal {
     NoSuchRegister = 13,
     /// 14: no such link.
     NoSuchLink = 14,
+    /// 15: two parts differ in sizes.
+    SizesDiffer = 15,
+    /// 16: the output is too short.
+    OutputShort = 16,
 }
 
 impl Refusal {
     /// All of them, in the order of their numbers.
-    pub const ALL: [Refusal; 14] = [
+    pub const ALL: [Refusal; 16] = [
         Refusal::WrongSize,
         Refusal::NotSound,
         Refusal::NoSuchWorker,
@@ -65,21 +69,23 @@ impl Refusal {
         Refusal::WrongCount,
         Refusal::NoSuchRegister,
         Refusal::NoSuchLink,
+        Refusal::SizesDiffer,
+        Refusal::OutputShort,
     ];
 
-    /// The documents' number, 1 to 14.
+    /// The documents' number, 1 to 16.
     pub fn number(self) -> u16 {
         self as u16
     }
 
-    /// The refusal that a number stands for; `None` for 0, which is "done", and above 14.
+    /// The refusal that a number stands for; `None` for 0, which is "done", and above 16.
     pub fn of_number(number: u16) -> Option<Refusal> {
         Refusal::ALL.into_iter().find(|refusal| refusal.number() == number)
     }
 
     /// What a number that a call has answered stands for: done, or why it refuses.
     ///
-    /// Panics at a number above 14. A library that answers one is not the one that was proved, and
+    /// Panics at a number that is none of these. A library that answers one is not the one that was proved, and
     /// whatever it has done can't be taken for done.
     pub(crate) fn answered(number: u16) -> Result<(), Refusal> {
         match number {
@@ -108,6 +114,8 @@ impl Refusal {
             Refusal::WrongCount => "end field's count is not the last step number",
             Refusal::NoSuchRegister => "no such register",
             Refusal::NoSuchLink => "no such link",
+            Refusal::SizesDiffer => "two parts differ in sizes",
+            Refusal::OutputShort => "the output is too short",
         }
     }
 }

@@ -6,6 +6,7 @@
 //! `--small` everything is done once on a small case, and the times say nothing.
 
 use bench::made::{self, Maker, COLLECTOR_HEAVY, WORKER_HEAVY};
+use bench::parts::{self, Parts};
 use bench::table::{grouped, time, Table};
 use bench::{check, child, clock, counted, flat, situation};
 use std::error::Error;
@@ -14,7 +15,7 @@ use std::hint::black_box;
 use std::io::{BufWriter, Read, Write};
 use std::path::{Path, PathBuf};
 use std::{env, iter};
-use yuyarisun::{Answer, Event, Lent, Pool, Record, Sizes};
+use yuyarisun::{join_into, Answer, Event, Lent, Pool, Record, Sizes};
 
 /// Counted calls, each with its name.
 type Calls = Vec<(String, u64)>;
@@ -248,6 +249,51 @@ impl Bench {
         Ok(())
     }
 
+    /// Joining the parts of a made trace beside a plain merge, and beside reading and writing the bytes
+    /// once.
+    fn joins(&mut self) -> Done {
+        let events = self.scale.events / 10;
+        for (kind, collects) in KINDS {
+            let mut trace = Vec::new();
+            made::write_trace(&mut trace, SEED, collects, events)?;
+            let by_worker = |_: usize, field: &[u8]| field.get(7).map_or(4, |w| usize::from(*w));
+            self.joined(&format!("5 parts by worker, {kind}"), &trace, parts::deal(&trace, 5, by_worker))?;
+            let in_turns = parts::deal(&trace, 9, |step, _| step % 9);
+            self.joined(&format!("9 parts in turns, {kind}"), &trace, in_turns)?;
+        }
+        Ok(())
+    }
+
+    fn joined(&mut self, name: &str, trace: &[u8], parts: Parts) -> Done {
+        let mut out = vec![0; parts.bytes.len()];
+        let length = join_into(&parts.bytes, &parts.lengths, &mut out)?;
+        let mut merged = vec![0; parts.bytes.len()];
+        if out[..length] != *trace || parts::merge(&parts, &mut merged) != Some(length) || out != merged {
+            return Err(format!("{name}: joined to another trace").into());
+        }
+        let mut copied = vec![0; parts.bytes.len()];
+        let times = clock::best(
+            self.scale.turns,
+            &mut [
+                &mut || {
+                    black_box(join_into(black_box(&parts.bytes), &parts.lengths, &mut out)).ok();
+                },
+                &mut || {
+                    black_box(parts::merge(black_box(&parts), &mut merged));
+                },
+                &mut || black_box(&mut copied).copy_from_slice(black_box(&parts.bytes)),
+            ],
+        );
+        let each = |seconds: f64| format!("{} a KiB", time(seconds / parts.bytes.len() as f64 * 1024.0));
+        for (other, seconds) in
+            [("a plain Rust merge", times[1]), ("reading and writing the bytes once", times[2])]
+        {
+            let what = format!("joining {name}, {} bytes, beside {other}", grouped(trace.len() as u64));
+            self.table.row(&what, each(times[0]), each(seconds), times[0] / seconds);
+        }
+        Ok(())
+    }
+
     /// Instructions of the calls that `single` makes, for each N.
     fn counts(&self, mode: &str, function: &str) -> Done<Vec<Calls>> {
         let count = |n: &u16| counted::calls(&self.single, &[mode, &n.to_string()], function, &self.folder);
@@ -312,6 +358,7 @@ impl Bench {
         self.replays()?;
         self.checks()?;
         self.pool_events()?;
+        self.joins()?;
         if counted::is_there() {
             self.instructions()?;
         } else {

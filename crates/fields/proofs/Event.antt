@@ -1,7 +1,7 @@
 -- An event field: what its bytes say where one is read, and what is read where they say so.
 --     Says, event-says     what the bytes of an event field say
 --     no-event             where they do not, no event field stands
---     event-stands         where they do, one does
+--     event-there, event-stands     where they do, one does
 -- Assumes nothing.
 use Prim.Native.Nat.{ℕ, _+_, _≤_, _<_}
 use mathlib.Core.Path.{_≡_, refl, sym, ap, _∙_}
@@ -78,16 +78,22 @@ module _ (bytes : List ℕ) (place step : ℕ) where
         follows = λ some. absurd (some refl);
       }
 
-  pub event-stands : {payload : ℕ} → payload ≡ payloadOf (byteAt bytes place) → Says bytes place step → step + 1 < 4294967296
-      → EventSized bytes place step (3 + payload)
+  -- the event that is read, with the place behind it
+  abbrev pub behind : ℕ → Read
+  behind next =
+      record { field = field.Event (step + 1) (eventAt (byteAt bytes place) bytes (place + 7)); next = next; reader = record { stage = Events; step = step + 1 } }
+
+  pub event-there : {payload : ℕ} → payload ≡ payloadOf (byteAt bytes place) → Says bytes place step → readAt bytes place reader ≡ behind (place + (3 + payload))
   unfolding tag
-  event-stands {payload} length-is says fits =
-      record {
-        none = λ zero. absurd (omega arith);
-        reads = λ some. read;
-        whole = λ some. (omega (arith, length-is), omega (arith, length-is, says .whole));
-        follows = λ some. fits;
-      }
+  event-there {payload} length-is says =
+      let on : place + (3 + payload) ≡ place + 3 + payload = omega arith in
+      let from : place + 7 ≡ place + 3 + 4 = omega arith in
+      sym
+      (ap behind on
+      ∙ event-read bytes place reader false length-is (says .no-sizes) (sym (says .next)) (says .no-end) (ap (eventAt tag bytes) from)
+      (ap not (eq-eqb (step + 1) (step + 1) refl))
+      ∙ payload-whole head (omega (arith, length-is, says .whole))
+      ∙ before-end bytes place reader (λ e. let z : _≡_ {A = ℕ} 0 1 = cc in omega arith))
     where
       head : Headed bytes place reader payload
       head =
@@ -99,17 +105,13 @@ module _ (bytes : List ℕ) (place step : ℕ) where
             long = says .long ∙ sym length-is;
           }
 
-      behind : ℕ → Read
-      behind next =
-          record { field = field.Event (step + 1) (eventAt tag bytes (place + 7)); next = next; reader = record { stage = Events; step = step + 1 } }
-
-      read : readAt bytes place reader ≡ behind (place + (3 + payload))
-      read =
-          let on : place + (3 + payload) ≡ place + 3 + payload = omega arith in
-          let from : place + 7 ≡ place + 3 + 4 = omega arith in
-          sym
-          (ap behind on
-          ∙ event-read bytes place reader false length-is (says .no-sizes) (sym (says .next)) (says .no-end) (ap (eventAt tag bytes) from)
-          (ap not (eq-eqb (step + 1) (step + 1) refl))
-          ∙ payload-whole head (omega (arith, length-is, says .whole))
-          ∙ before-end bytes place reader (λ e. let z : _≡_ {A = ℕ} 0 1 = cc in omega arith))
+  pub event-stands : {payload : ℕ} → payload ≡ payloadOf (byteAt bytes place) → Says bytes place step → step + 1 < 4294967296
+      → EventSized bytes place step (3 + payload)
+  unfolding tag
+  event-stands {payload} length-is says fits =
+      record {
+        none = λ zero. absurd (omega arith);
+        reads = λ some. event-there length-is says;
+        whole = λ some. (omega (arith, length-is), omega (arith, length-is, says .whole));
+        follows = λ some. fits;
+      }

@@ -80,7 +80,7 @@ fn two_at(bytes: &[u8], i: usize) -> u16
     (bytes[i] as u16) * 256 + (bytes[i + 1] as u16)
 }
 
-fn four_at(bytes: &[u8], i: usize) -> u32
+pub fn four_at(bytes: &[u8], i: usize) -> u32
     requires { ⌜ i + 3 < length (now bytes) ⌝ }
     ensures { λ x. ⌜ x ≡ fourAt (now (bytes .entry)) i ⌝ }
 {

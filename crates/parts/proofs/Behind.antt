@@ -24,7 +24,7 @@ use Rattle.fields.specs.Part.{moved}
 use Rattle.trace.specs.declared.Ending.{Ending}
 use Rattle.trace.specs.declared.Ending.the-variants.{Whole, Stopped}
 use Rattle.trace.specs.Replay.{Left, untouched, stands, Replayed, stops, lineOf, withLine}
-use Rattle.trace.proofs.Comes.{readerAt, Comes, a-refusal, the-sizes, an-event, the-end, nothing, read-comes}
+use Rattle.fields.proofs.Comes.{readerAt, Comes, a-refusal, the-sizes, an-event, the-end, nothing, read-comes}
 use Rattle.trace.proofs.Turns.{turn}
 use Rattle.trace.proofs.Along.{goesOn, goes-on-turn}
 use Rattle.parts.specs.Part.{movedEnding}

@@ -33,7 +33,7 @@ use Rattle.trace.specs.declared.Stood.{Stood}
 use Rattle.trace.specs.Replay.{Left, untouched, stands}
 use Rattle.trace.specs.Stretch.{Stretch, behind, stretch}
 use Rattle.trace.specs.Stand.{waits, stood}
-use Rattle.trace.proofs.Comes.{readerAt, Comes, a-refusal, the-sizes, an-event, the-end, nothing, read-comes}
+use Rattle.fields.proofs.Comes.{readerAt, Comes, a-refusal, the-sizes, an-event, the-end, nothing, read-comes}
 use Rattle.trace.proofs.Behind.{look}
 use Rattle.trace.proofs.Along.{Runs, no-event, then-more, stretch-runs}
 use Rattle.parts.specs.declared.Progress.{Progress}

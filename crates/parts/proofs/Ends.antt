@@ -23,7 +23,7 @@ use Rattle.trace.specs.declared.Stand.the-variants as stand
 use Rattle.trace.specs.Replay.{Left}
 use Rattle.trace.specs.Stretch.{behind, stretch}
 use Rattle.trace.specs.Stand.{waits, stood}
-use Rattle.trace.proofs.Comes.{readerAt, Comes, a-refusal, the-sizes, an-event, the-end, nothing, read-comes}
+use Rattle.fields.proofs.Comes.{readerAt, Comes, a-refusal, the-sizes, an-event, the-end, nothing, read-comes}
 use Rattle.trace.proofs.Behind.{look}
 use Rattle.parts.specs.Part.{Taken, restTaken, stopsAt, firstTaken, partTaken}
 use Rattle.parts.proofs.Between.{Between, before-sizes, behind-sizes, behind-end, stretched, firstOf, firstWaits}

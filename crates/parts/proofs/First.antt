@@ -33,7 +33,7 @@ use Rattle.trace.specs.declared.Stand.the-variants as stand
 use Rattle.trace.specs.Replay.{Left, untouched, stands}
 use Rattle.trace.specs.Stretch.{linesBehind, put}
 use Rattle.trace.specs.Stand.{waits}
-use Rattle.trace.proofs.Comes.{readerAt, Comes, a-refusal, the-sizes, an-event, the-end, nothing, read-comes}
+use Rattle.fields.proofs.Comes.{readerAt, Comes, a-refusal, the-sizes, an-event, the-end, nothing, read-comes}
 use Rattle.parts.specs.declared.Progress.{Progress}
 use Rattle.parts.specs.declared.Part.{Part}
 use Rattle.parts.specs.Part.{Taken, restTaken, stopsAt, firstTaken, partTaken}

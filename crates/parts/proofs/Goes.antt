@@ -24,7 +24,7 @@ use Rattle.trace.specs.declared.Stood.{Stood}
 use Rattle.trace.specs.Replay.{Left, untouched, stands, Replayed, stops, withLines}
 use Rattle.trace.specs.Stretch.{behind, stretch, linesBehind}
 use Rattle.trace.specs.Stand.{waits, stood}
-use Rattle.trace.proofs.Comes.{readerAt, Comes, a-refusal, the-sizes, an-event, the-end, nothing, read-comes}
+use Rattle.fields.proofs.Comes.{readerAt, Comes, a-refusal, the-sizes, an-event, the-end, nothing, read-comes}
 use Rattle.trace.proofs.Turns.{Onward, turn}
 use Rattle.trace.proofs.Behind.{look}
 use Rattle.trace.proofs.Along.{isEvent, stretch-runs, stretch-ends, goesOn, goes-on-turn, goes-along}

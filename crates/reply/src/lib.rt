@@ -25,6 +25,8 @@ pub fn refusal_number(why: Refusal) -> u16
         Refusal::WrongCount => 12,
         Refusal::NoSuchRegister => 13,
         Refusal::NoSuchLink => 14,
+        Refusal::SizesDiffer => 15,
+        Refusal::OutputShort => 16,
     }
 }
 

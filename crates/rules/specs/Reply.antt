@@ -21,6 +21,8 @@ use Rattle.rules.specs.declared.Refusal.the-variants.{
   WrongCount,
   NoSuchRegister,
   NoSuchLink,
+  SizesDiffer,
+  OutputShort,
 }
 use Rattle.rules.specs.declared.Answer.{Answer}
 use Rattle.rules.specs.declared.Answer.the-variants.{Fresh, Made, Moved, Dropped, Loaded, Stored, Stepped, Freed, Refused}
@@ -42,6 +44,8 @@ refusalNumber ExtraByte = 11
 refusalNumber WrongCount = 12
 refusalNumber NoSuchRegister = 13
 refusalNumber NoSuchLink = 14
+refusalNumber SizesDiffer = 15
+refusalNumber OutputShort = 16
 
 -- 0: "done"
 unfoldable pub number : Answer → ℕ

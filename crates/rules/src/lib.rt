@@ -62,6 +62,10 @@ pub enum Refusal {
     NoSuchRegister,
     // 14: no such link (document 02, request 2).
     NoSuchLink,
+    // 15: two parts differ in sizes (document 02, request 3).
+    SizesDiffer,
+    // 16: the output is too short (document 02, request 3).
+    OutputShort,
 }
 
 pub enum Answer {

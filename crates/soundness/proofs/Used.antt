@@ -18,7 +18,7 @@ use lib.ListN.{length}
 use Rattle.rules.specs.declared.Sizes.{Sizes}
 use Rattle.rules.specs.declared.RecordNumber.{RecordNumber}
 use Rattle.rules.specs.declared.Refusal.{Refusal}
-use Rattle.rules.specs.declared.Refusal.the-variants.{WrongSize, NotSound, NoSuchWorker, HoldsNone, NoneFree, LogFull, WrongTag, WrongLength, StopsShort, WrongStep, ExtraByte, WrongCount, NoSuchRegister, NoSuchLink}
+use Rattle.rules.specs.declared.Refusal.the-variants.{WrongSize, NotSound, NoSuchWorker, HoldsNone, NoneFree, LogFull, WrongTag, WrongLength, StopsShort, WrongStep, ExtraByte, WrongCount, NoSuchRegister, NoSuchLink, SizesDiffer, OutputShort}
 use Rattle.rules.specs.declared.Answer.the-variants.{Refused}
 use Rattle.rules.specs.declared.Event.{Event}
 use Rattle.rules.specs.declared.Event.the-variants.{Make, Move, Drop, Load, Store, Collect}
@@ -68,6 +68,8 @@ refusal-number ExtraByte = refl
 refusal-number WrongCount = refl
 refusal-number NoSuchRegister = refl
 refusal-number NoSuchLink = refl
+refusal-number SizesDiffer = refl
+refusal-number OutputShort = refl
 
 module _ (s : Sizes) (p : Pool) (h : Sound s p) (a : RecordNumber) (some : 1 ≤ a .0) where
   -- the mark after an outcome is the one that its answer tells

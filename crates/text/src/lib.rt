@@ -67,7 +67,7 @@ fn count_up(digits: &mut [u8], places: usize, n: u64) -> usize
 }
 
 // Bytes, from the place `at` on; answers the place behind them.
-fn put_bytes(out: &mut [u8], at: usize, bytes: &[u8]) -> usize
+pub fn put_bytes(out: &mut [u8], at: usize, bytes: &[u8]) -> usize
     requires { ⌜ at + length (now bytes) ≤ length (now out) ⌝ }
     ensures { λ x. ⌜ Written (now (out .entry)) at (now (bytes .entry)) x (now (out .exit)) ⌝ }
 {

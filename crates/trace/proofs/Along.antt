@@ -25,7 +25,7 @@ use Rattle.fields.specs.Field.{readAt}
 use Rattle.fields.specs.Part.{isTaken}
 use Rattle.trace.specs.Replay.{Left, stands, Replayed, lineOf, withLine, withLines, goes}
 use Rattle.trace.specs.Stretch.{Stretch, noEvent, withEvent, behind, stretch, linesBehind}
-use Rattle.trace.proofs.Comes.{readerAt, eventRead, Comes, a-refusal, an-event, the-end, read-comes}
+use Rattle.fields.proofs.Comes.{readerAt, eventRead, Comes, a-refusal, an-event, the-end, read-comes}
 use Rattle.trace.proofs.Turns.{turn, goes-turn, stretchTurn, stretch-turn}
 
 abbrev pub isEvent : Field → Bool

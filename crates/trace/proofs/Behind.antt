@@ -35,7 +35,7 @@ use Rattle.trace.specs.declared.Stood.{Stood}
 use Rattle.trace.specs.Replay.{stands, Replayed}
 use Rattle.trace.specs.Stretch.{behind}
 use Rattle.trace.specs.Stand.{waits, ended, stood, standBehind, endingOf}
-use Rattle.trace.proofs.Comes.{readerAt, Comes, a-refusal, an-event, the-end, nothing, read-comes}
+use Rattle.fields.proofs.Comes.{readerAt, Comes, a-refusal, an-event, the-end, nothing, read-comes}
 use Rattle.trace.proofs.Turns.{turn}
 use Rattle.trace.proofs.Along.{isEvent, goesOn, goes-on-turn}
 

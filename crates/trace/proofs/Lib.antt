@@ -1,5 +1,4 @@
 -- What is proved of traces.
---     Comes         what comes at a place of a trace, by what may come there
 --     Turns         a replay and a stretch, turn by turn
 --     Along         a replay along a stretch of events
 --     Behind        how a trace stands behind its events is how its replay ends
@@ -11,7 +10,6 @@
 --     Lines         the lines of a run
 --     Promised      what is promised of a whole trace
 --     OneResult     two results of the call that both satisfy its contract are equal
-pub mod Comes
 pub mod Turns
 pub mod Along
 pub mod Behind

@@ -44,7 +44,7 @@ use Rattle.trace.specs.Stretch.{Stretch, behind, stretch, linesBehind, p
 use Rattle.trace.specs.Stand.{standBehind, endingOf}
 use Rattle.trace.specs.Traced.{leftOn, tracedBy, traced}
 use Rattle.trace.specs.Promise.{eventsOf, Run, Shown, a-run, nothing-touched, lineAt, lineFrees, linesFree}
-use Rattle.trace.proofs.Comes.{sizesRead, Comes, a-refusal, the-sizes, read-comes}
+use Rattle.fields.proofs.Comes.{sizesRead, Comes, a-refusal, the-sizes, read-comes}
 use Rattle.trace.proofs.Turns.{turn}
 use Rattle.trace.proofs.Along.{goesOn, stretch-ends, goes-stretch}
 use Rattle.trace.proofs.Behind.{goes-last}

@@ -21,7 +21,7 @@ use Rattle.fields.specs.declared.Read.{Read}
 use Rattle.fields.specs.Field.{readAt}
 use Rattle.trace.specs.Replay.{Left, untouched, stands, Replayed, stops, lineOf, withLine, ends, goes}
 use Rattle.trace.specs.Stretch.{Stretch, noEvent, withEvent, behind, stretchOf, stretch}
-use Rattle.trace.proofs.Comes.{readerAt, Comes, a-refusal, the-sizes, an-event, the-end, nothing, read-comes}
+use Rattle.fields.proofs.Comes.{readerAt, Comes, a-refusal, the-sizes, an-event, the-end, nothing, read-comes}
 
 -- ---- a replay
 

@@ -24,7 +24,7 @@ use Rattle.trace.specs.declared.Ending.the-variants.{Stopped}
 use Rattle.trace.specs.Replay.{untouched, atStart, replayed}
 use Rattle.trace.specs.Stretch.{put}
 use Rattle.trace.specs.Traced.{tracedBy, traced, sized}
-use Rattle.trace.proofs.Comes.{Comes, a-refusal, the-sizes, read-comes}
+use Rattle.fields.proofs.Comes.{Comes, a-refusal, the-sizes, read-comes}
 use Rattle.trace.proofs.Turns.{turn}
 use Rattle.trace.proofs.Along.{goesOn, goes-on-turn}
 

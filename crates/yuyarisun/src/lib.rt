@@ -4,11 +4,14 @@
 //     yuyarisun_make, _move, _drop, _load, _store, _collect     one event of each kind: `pool::event`
 //     yuyarisun_fresh, _sound, _free_records                    the calls of `fresh`, and `pool::sound`
 //     yuyarisun_events, _trace                                  many events at once; a whole trace
+//     yuyarisun_join                                            parts of a trace, joined
 //     yuyarisun_inner_event                                     inner: an event on a pool that is known to be sound; in no header
-// Inner: one_event, event_of, rest_number, rest_place, ending_number, ending_place, ending_free.
+// Inner: one_event, event_of, rest_number, rest_place, ending_number, ending_place, ending_free, joined_number, joined_length, joined_place.
 use events::event_known;
 use fresh::free_records;
 use fresh::fresh;
+use join::Joined;
+use join::join;
 use many::Rest;
 use many::many_events;
 use pool::event;
@@ -34,8 +37,10 @@ ghost use Rattle.fresh.specs.Fresh.{madeFresh};
 ghost use Rattle.pool.specs.Calls.{called};
 ghost use Rattle.trace.specs.Traced.{traced};
 ghost use Rattle.many.specs.Many.{manyOn};
+ghost use Rattle.join.specs.Joined.{joinedOn};
 ghost use Rattle.yuyarisun.specs.Exported.{sizesOf, collectorOf, eventOf, numbers};
 ghost use Rattle.yuyarisun.specs.Several.{restNumber, restPlace, manyNumbers, endingNumber, endingPlace, endingFree, traceNumbers};
+ghost use Rattle.yuyarisun.specs.Join.{joinedNumber, joinedLength, joinedPlace, joinNumbers};
 
 // One event on a lent pool, in numbers.
 fn one_event(
@@ -823,4 +828,53 @@ pub extern "C" fn yuyarisun_trace(
     *free = ending_free(ending);
     *place = ending_place(ending);
     ending_number(ending)
+}
+
+// The number of what joining comes to, 0 if the parts are joined.
+fn joined_number(joined: Joined) -> u16
+    ensures { λ x. ⌜ x ≡ joinedNumber joined ⌝ }
+{
+    match joined {
+        Joined::Length(n) => 0,
+        Joined::Refused(why, at) => refusal_number(why),
+    }
+}
+
+// How long the joined trace is, 0 if the parts are refused.
+fn joined_length(joined: Joined) -> usize
+    ensures { λ x. ⌜ x ≡ joinedLength joined ⌝ }
+{
+    match joined {
+        Joined::Length(n) => n,
+        Joined::Refused(why, at) => 0,
+    }
+}
+
+// The place where the parts are refused, 0 if they are joined.
+fn joined_place(joined: Joined) -> usize
+    ensures { λ x. ⌜ x ≡ joinedPlace joined ⌝ }
+{
+    match joined {
+        Joined::Length(n) => 0,
+        Joined::Refused(why, at) => at,
+    }
+}
+
+// Parts of a trace, joined: `parts` has them end to end, `lengths` how long each is. The answer is 0, with the joined trace at the beginning of `out` and its length
+// in `length`; else the number of the refusal, with its place in `place`, and nothing is written to `out`.
+#[no_mangle]
+pub extern "C" fn yuyarisun_join(
+    parts: &[u8],
+    lengths: &[u64],
+    out: &mut [u8],
+    length: &mut usize,
+    place: &mut usize,
+) -> u16
+    ensures { λ x. ⌜ joinNumbers (joinedOn (now (parts .entry)) (now (lengths .entry)) (now (out .entry)))
+        ≡ record { number = x; length = now (length .exit); place = now (place .exit); out = now (out .exit) } ⌝ }
+{
+    let joined = join(parts, lengths, out);
+    *length = joined_length(joined);
+    *place = joined_place(joined);
+    joined_number(joined)
 }

@@ -12,6 +12,7 @@
 //! - `trace`      the fields of a trace, and the order of a field's refusals
 //! - `replay`     a whole trace: what is printed
 //! - `row`        a trace as a row that the proved rules compute
+//! - `join`       parts of a trace, joined: request 3 of document 02
 //!
 //! The checks
 //! - `sound`      a sound pool, clause by clause
@@ -33,6 +34,7 @@ pub mod collector;
 pub mod damage;
 pub mod event;
 pub mod habit;
+pub mod join;
 pub mod maker;
 pub mod many;
 pub mod pool;

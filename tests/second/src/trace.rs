@@ -180,11 +180,25 @@ pub struct Refusal {
 pub struct Reader<'a> {
     trace: &'a [u8],
     takes: &'a dyn Fn(Sizes) -> bool,
+    numbering: Numbering,
     offset: usize,
     last_step: u32,
+    /// How many events were read.
+    events: u32,
     /// The sizes were read.
     sized: bool,
     ended: bool,
+}
+
+/// What step numbers and the end field's count are asked to be.
+#[derive(Clone, Copy, PartialEq, Eq)]
+enum Numbering {
+    /// Document 01: "10: step number not the previous plus one. 12: end field's count is not the last
+    /// step number."
+    Trace,
+    /// Request 3 of document 02: "10 now means not above the part's previous number (0 before the
+    /// first) and 12 a wrong count of its events."
+    Part,
 }
 
 impl<'a> Reader<'a> {
@@ -195,7 +209,13 @@ impl<'a> Reader<'a> {
 
     /// With others.
     pub fn taking(trace: &'a [u8], takes: &'a dyn Fn(Sizes) -> bool) -> Reader<'a> {
-        Reader { trace, takes, offset: 0, last_step: 0, sized: false, ended: false }
+        let numbering = Numbering::Trace;
+        Reader { trace, takes, numbering, offset: 0, last_step: 0, events: 0, sized: false, ended: false }
+    }
+
+    /// A part of a trace, with the ranges of document 01's section "Sizes".
+    pub fn of_part(part: &'a [u8]) -> Reader<'a> {
+        Reader { numbering: Numbering::Part, ..Reader::taking(part, &in_range) }
     }
 
     /// What comes behind the sizes and the event with this step number.
@@ -219,7 +239,10 @@ impl<'a> Reader<'a> {
         self.offset += field.bytes().len();
         match field {
             Field::Sizes(_) => self.sized = true,
-            Field::Event { step, .. } => self.last_step = step,
+            Field::Event { step, .. } => {
+                self.last_step = step;
+                self.events += 1;
+            }
             Field::End { .. } => self.ended = true,
         }
         Ok(Some(field))
@@ -232,9 +255,24 @@ impl<'a> Reader<'a> {
         let field = meaning(kind, payload).ok_or(8)?;
         match field {
             Field::Sizes(sizes) if !(self.takes)(sizes) => Err(1),
-            Field::Event { step, .. } if self.last_step.checked_add(1) != Some(step) => Err(10),
-            Field::End { count } if count != self.last_step => Err(12),
+            Field::Event { step, .. } if !self.follows(step) => Err(10),
+            Field::End { count } if count != self.count() => Err(12),
             _ => Ok(field),
+        }
+    }
+
+    fn follows(&self, step: u32) -> bool {
+        match self.numbering {
+            Numbering::Trace => self.last_step.checked_add(1) == Some(step),
+            Numbering::Part => step > self.last_step,
+        }
+    }
+
+    /// What the end field has to say.
+    fn count(&self) -> u32 {
+        match self.numbering {
+            Numbering::Trace => self.last_step,
+            Numbering::Part => self.events,
         }
     }
 
@@ -259,6 +297,15 @@ pub const LARGEST: Sizes = Sizes { n: 64, k: 4, w: 4, r: 8 };
 
 /// "it takes N up to 64, K up to 4, W up to 4, R up to 8, and answers 1 beyond."
 pub fn replay_takes(sizes: Sizes) -> bool {
-    let pairs = [(sizes.n, LARGEST.n), (sizes.k, LARGEST.k), (sizes.w, LARGEST.w), (sizes.r, LARGEST.r)];
+    within(LARGEST, sizes)
+}
+
+/// "N records 1..1024, K links in each 1..8, W workers 1..8, R registers per worker 1..16."
+pub fn in_range(sizes: Sizes) -> bool {
+    within(Sizes { n: 1024, k: 8, w: 8, r: 16 }, sizes)
+}
+
+fn within(most: Sizes, sizes: Sizes) -> bool {
+    let pairs = [(sizes.n, most.n), (sizes.k, most.k), (sizes.w, most.w), (sizes.r, most.r)];
     pairs.into_iter().all(|(size, largest)| (1..=largest).contains(&size))
 }

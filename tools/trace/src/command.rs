@@ -15,6 +15,7 @@ pub enum Command {
     Write(Source),
     Show(Source),
     Make { seed: u64 },
+    Split { source: Source, folder: PathBuf },
 }
 
 /// What is wrong with a call, and the help of the part that it was meant for.
@@ -28,6 +29,8 @@ pub const HELP: &str = "\
 usage: trace write [FILE]    a trace in the text form to bytes, for `replay`
        trace show [FILE]     bytes to the text form, damaged ones too
        trace make SEED       the bytes of the trace that a seed makes
+       trace split FILE FOLDER
+                             a whole trace to parts, one for each worker and one for the collector
        trace PART --help     more about one of these
 
 Without a FILE, or with -, standard input is read. What comes out goes to standard output.
@@ -77,17 +80,34 @@ the same trace everywhere. One in four traces is damaged.
     trace make 7 > seven.bytes
 ";
 
+const SPLIT: &str = "\
+usage: trace split FILE FOLDER
+
+Deals a whole trace out into parts, one for each worker and one for the collector, which `tools/join`
+joins to the same trace again. Each part has the trace's sizes field, its own events with their step
+numbers, and an end field with how many these are. An event of a worker that the pool does not have
+goes to the collector's part. FILE is in bytes, or in the text form if its name ends in .trace; with -
+standard input is read. The parts are FOLDER/worker-0.part and so on and FOLDER/collector.part; their
+names are printed.
+
+    trace split my.bytes parts
+    tools/join parts/*.part > again.bytes
+";
+
 /// What the words after the program's name ask for.
 pub fn command(words: &[&str]) -> Result<Command, Misused> {
     let Some((part, others)) = words.split_first() else {
-        return Err(Misused { what: "write, show or make?".into(), help: HELP });
+        return Err(Misused { what: "write, show, make or split?".into(), help: HELP });
     };
     match *part {
         "--help" | "-h" | "help" => Ok(Command::Help(HELP)),
         "write" => with_help(others, WRITE, |words| source(words).map(Command::Write)),
         "show" => with_help(others, SHOW, |words| source(words).map(Command::Show)),
         "make" => with_help(others, MAKE, |words| seed(words).map(|seed| Command::Make { seed })),
-        other => Err(Misused { what: format!("`{other}` is neither write, show nor make"), help: HELP }),
+        "split" => with_help(others, SPLIT, split),
+        other => {
+            Err(Misused { what: format!("`{other}` is neither write, show, make nor split"), help: HELP })
+        }
     }
 }
 
@@ -113,6 +133,13 @@ fn source(words: &[&str]) -> Result<Source, String> {
     }
 }
 
+fn split(words: &[&str]) -> Result<Command, String> {
+    let &[file, folder] = words else {
+        return Err(format!("a file and a folder, and here are {}", words.len()));
+    };
+    Ok(Command::Split { source: source(&[file])?, folder: folder.into() })
+}
+
 fn seed(words: &[&str]) -> Result<u64, String> {
     let &[word] = words else {
         return Err("one seed".into());
@@ -129,6 +156,8 @@ mod tests {
         assert_eq!(command(&["write"]), Ok(Command::Write(Source::StandardInput)));
         assert_eq!(command(&["show", "-"]), Ok(Command::Show(Source::StandardInput)));
         assert_eq!(command(&["show", "a b"]), Ok(Command::Show(Source::File("a b".into()))));
+        let split = Command::Split { source: Source::StandardInput, folder: "parts".into() };
+        assert_eq!(command(&["split", "-", "parts"]), Ok(split));
     }
 
     #[test]
@@ -138,6 +167,7 @@ mod tests {
             (&["write", "--help"], WRITE),
             (&["show", "-h"], SHOW),
             (&["make", "--help"], MAKE),
+            (&["split", "a", "--help"], SPLIT),
         ] {
             assert_eq!(command(words), Ok(Command::Help(help)));
         }
@@ -146,10 +176,12 @@ mod tests {
     #[test]
     fn a_call_that_means_nothing_is_told_what_is_wrong() {
         for (words, wrong) in [
-            (&[][..], "write, show or make?"),
-            (&["wrte"], "`wrte` is neither write, show nor make"),
+            (&[][..], "write, show, make or split?"),
+            (&["wrte"], "`wrte` is neither write, show, make nor split"),
             (&["write", "--quiet"], "`--quiet` is no option; a file of that name is ./--quiet"),
             (&["show", "a", "b"], "one file at most, and here are 2"),
+            (&["split", "a"], "a file and a folder, and here are 1"),
+            (&["split", "--quiet", "parts"], "`--quiet` is no option; a file of that name is ./--quiet"),
             (&["make"], "one seed"),
             (&["make", "-1"], "`-1` is no seed: a number below 2 to the 64th"),
         ] {

@@ -1,11 +1,13 @@
-//! `trace write`, `trace show`, `trace make`: `trace --help` says more.
+//! `trace write`, `trace show`, `trace make`, `trace split`: `trace --help` says more.
 
 use std::fs;
 use std::io::{self, ErrorKind, Read, Write};
+use std::path::Path;
 use std::process::ExitCode;
 
 use second::maker::make;
 use trace::command::{command, Command, Source};
+use trace::split::split;
 use trace::text;
 
 fn main() -> ExitCode {
@@ -39,6 +41,7 @@ fn output(command: &Command) -> Result<Vec<u8>, String> {
         Command::Write(source) => write(source),
         Command::Show(source) => Ok(text::show(&input(source)?).into_bytes()),
         Command::Make { seed } => Ok(make(*seed).trace),
+        Command::Split { source, folder } => write_parts(source, folder),
     }
 }
 
@@ -63,6 +66,28 @@ fn input(source: &Source) -> Result<Vec<u8>, String> {
 fn write(source: &Source) -> Result<Vec<u8>, String> {
     text::write_bytes(&input(source)?)
         .map_err(|wrong| format!("{}:{}: {}", name(source), wrong.line, wrong.what))
+}
+
+/// Writes the parts of a trace into a folder, which is made where it is missing; the names of the
+/// files, one on a line.
+fn write_parts(source: &Source, folder: &Path) -> Result<Vec<u8>, String> {
+    let trace = match source {
+        Source::File(path) if text::is_named(path) => write(source)?,
+        _ => input(source)?,
+    };
+    let parts = split(&trace).map_err(|refusal| {
+        let (number, offset) = (refusal.number, refusal.offset);
+        format!("{}: no whole trace: it is refused by {number} at byte {offset}", name(source))
+    })?;
+    let told = |path: &Path, error: io::Error| format!("{}: {error}", path.display());
+    fs::create_dir_all(folder).map_err(|error| told(folder, error))?;
+    let mut names = String::new();
+    for part in parts {
+        let path = folder.join(part.name + ".part");
+        fs::write(&path, part.bytes).map_err(|error| told(&path, error))?;
+        names += &format!("{}\n", path.display());
+    }
+    Ok(names.into_bytes())
 }
 
 /// A reader that has seen enough and leaves, as `head` does, is no error.

@@ -18,6 +18,7 @@
 //! tag, that tag's length and a whole payload, and all that follows such a place.
 
 use std::fmt::Write;
+use std::path::Path;
 use std::str::{from_utf8, FromStr};
 
 use second::pool::Sizes;
@@ -74,6 +75,11 @@ fn line(field: &Field) -> String {
 pub struct Wrong {
     pub line: usize,
     pub what: String,
+}
+
+/// Whether a file's name says that it is in the text form.
+pub fn is_named(path: &Path) -> bool {
+    path.extension().is_some_and(|extension| extension == "trace")
 }
 
 /// The bytes of a text as it comes from a file, or what is wrong with it.

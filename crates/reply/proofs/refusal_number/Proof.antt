@@ -47,6 +47,12 @@ enum-told-13 c = search needs
 enum-told-14 : tie.Need-enum-told-14
 enum-told-14 c = search needs
 
+enum-told-15 : tie.Need-enum-told-15
+enum-told-15 c = search needs
+
+enum-told-16 : tie.Need-enum-told-16
+enum-told-16 c = search needs
+
 returns : tie.Need-returns
 unfolding refusalNumber
 returns c = rw (c .enum-told .given .1) refl
@@ -103,6 +109,14 @@ returns-14 : tie.Need-returns-14
 unfolding refusalNumber
 returns-14 c = rw (c .enum-told14 .given .1) refl
 
+returns-15 : tie.Need-returns-15
+unfolding refusalNumber
+returns-15 c = rw (c .enum-told15 .given .1) refl
+
+returns-16 : tie.Need-returns-16
+unfolding refusalNumber
+returns-16 c = rw (c .enum-told16 .given .1) refl
+
 pub refusal-number-spec : {M : Type 1} → statement M
 refusal-number-spec =
     tie.close
@@ -121,6 +135,8 @@ refusal-number-spec =
     enum-told-12
     enum-told-13
     enum-told-14
+    enum-told-15
+    enum-told-16
     returns
     returns-2
     returns-3
@@ -134,4 +150,6 @@ refusal-number-spec =
     returns-11
     returns-12
     returns-13
-    returns-14)
+    returns-14
+    returns-15
+    returns-16)

@@ -6,15 +6,19 @@
 //! `second --many FOLDER FIRST COUNT [FIRST COUNT ..]`
 //!                     makes and checks COUNT traces from the seed FIRST on, says what was
 //!                     reached, and keeps a trace that fails in the folder
+//! `second --join PART [PART ..]`
+//!                     writes the trace that these parts are joined to; or on standard error
+//!                     `refused`, the number and the place in the parts as they lie end to end
 //!
 //! Leaves with 0, also after a refused trace; with 1 if a check did not hold, if something was
-//! never reached or if reading or writing failed; with 2 if called otherwise.
+//! never reached, if parts are refused or if reading or writing failed; with 2 if called otherwise.
 
 use std::io::{self, BufWriter, Read, Write};
 use std::path::Path;
 use std::process::ExitCode;
 
 use second::check::Check;
+use second::join::join;
 use second::many::{many, Failure};
 use second::replay::{replay, Ending};
 use second::row::row;
@@ -34,6 +38,7 @@ fn main() -> ExitCode {
             Some(ranges) => check_many(Path::new(folder), &ranges),
             None => return usage(),
         },
+        ["--join", ref files @ ..] if !files.is_empty() => join_files(files),
         _ => return usage(),
     };
     match done {
@@ -48,7 +53,7 @@ fn main() -> ExitCode {
 
 fn usage() -> ExitCode {
     let ways = "second [--check] < BYTES | second --row NAME MOST < BYTES | \
-                second --many FOLDER FIRST COUNT [FIRST COUNT ..]";
+                second --many FOLDER FIRST COUNT [FIRST COUNT ..] | second --join PART [PART ..]";
     let _ = writeln!(io::stderr(), "usage: {ways}");
     ExitCode::from(2)
 }
@@ -77,6 +82,19 @@ fn replay_input(checked: bool) -> io::Result<bool> {
         return Ok(false);
     }
     Ok(true)
+}
+
+fn join_files(files: &[&str]) -> io::Result<bool> {
+    let parts: Vec<Vec<u8>> = files.iter().map(std::fs::read).collect::<io::Result<_>>()?;
+    let lengths: Vec<u64> = parts.iter().map(|part| part.len() as u64).collect();
+    let slice = parts.concat();
+    match join(&slice, &lengths, slice.len()) {
+        Ok(joined) => io::stdout().write_all(&joined).map(|()| true),
+        Err(refusal) => {
+            writeln!(io::stderr(), "refused {} {}", refusal.number, refusal.offset)?;
+            Ok(false)
+        }
+    }
 }
 
 /// Pairs of a first seed and how many.
