@@ -31,7 +31,7 @@ extern "C" {
 
 /* ---- The numbers that a call answers ---- */
 
-/* An event's call asks for 1 first, then for 2, 3, 13, 14, 4, and then for 5 or 6. 7 to 12 are given where many events or a trace are read from bytes, and where parts
+/* An event's call asks for 1 first, then for 2, 3, 13, 14, 4, and then for 5. 7 to 12 are given where many events or a trace are read from bytes, and where parts
  * are joined, which asks for 15 and 16 last. */
 enum yuyarisun_number {
     YUYARISUN_DONE = 0,
@@ -40,7 +40,7 @@ enum yuyarisun_number {
     YUYARISUN_NO_SUCH_WORKER = 3,
     YUYARISUN_HOLDS_NONE = 4,
     YUYARISUN_NONE_FREE = 5,
-    YUYARISUN_LOG_FULL = 6,
+    /* 6 is left free on purpose: no pool can produce a full log, and the number isn't used again. */
     YUYARISUN_WRONG_TAG = 7,
     YUYARISUN_WRONG_LENGTH = 8,
     YUYARISUN_STOPS_SHORT = 9,
@@ -63,7 +63,6 @@ static inline const char *yuyarisun_words(uint16_t number)
     case YUYARISUN_NO_SUCH_WORKER: return "no such worker";
     case YUYARISUN_HOLDS_NONE: return "load or store through a register that holds none";
     case YUYARISUN_NONE_FREE: return "make, and no record is free";
-    case YUYARISUN_LOG_FULL: return "store that must log, and the worker's log has S entries";
     case YUYARISUN_WRONG_TAG: return "tag unknown, first field not the sizes, or sizes a second time";
     case YUYARISUN_WRONG_LENGTH: return "field length not the tag's";
     case YUYARISUN_STOPS_SHORT: return "the trace stops inside a field or before the end field";
@@ -211,20 +210,20 @@ static inline uint16_t yuyarisun_lay(yuyarisun_pool *pool, yuyarisun_sizes sizes
         const uint16_t *lengths, size_t lengths_length, uint16_t phase, uint16_t position, uint16_t closed
 
 /* make: the first free record above the last one made, else the lowest, becomes used, and the register `into` holds it. The value is its number. Answers 0, 1,
- * 2, 3 or 5. */
+ * 2, 3, 13 or 5. */
 uint16_t yuyarisun_make(YUYARISUN_LENT, uint16_t *value, uint8_t worker, uint8_t into);
 
-/* move: the register `into` takes what the register `from` holds, which is the value. Answers 0, 1, 2 or 3. */
+/* move: the register `into` takes what the register `from` holds, which is the value. Answers 0, 1, 2, 3 or 13. */
 uint16_t yuyarisun_move(YUYARISUN_LENT, uint16_t *value, uint8_t worker, uint8_t into, uint8_t from);
 
-/* drop: the register becomes none. The value is 0. Answers 0, 1, 2 or 3. */
+/* drop: the register becomes none. The value is 0. Answers 0, 1, 2, 3 or 13. */
 uint16_t yuyarisun_drop(YUYARISUN_LENT, uint16_t *value, uint8_t worker, uint8_t dropped);
 
-/* load: the register `into` takes a link of the record in the register `through`, which is the value. Answers 0, 1, 2, 3 or 4. */
+/* load: the register `into` takes a link of the record in the register `through`, which is the value. Answers 0, 1, 2, 3, 13, 14 or 4. */
 uint16_t yuyarisun_load(YUYARISUN_LENT, uint16_t *value, uint8_t worker, uint8_t into, uint8_t through, uint8_t link);
 
-/* store: a link of the record in the register `through` takes what the register `from` holds. The value is the one overwritten. Answers 0, 1, 2, 3, 4 or, as
- * the document has it, 6, which no sound pool gives. */
+/* store: a link of the record in the register `through` takes what the register `from` holds. The value is the one overwritten. Answers 0, 1, 2, 3, 13,
+ * 14 or 4. */
 uint16_t yuyarisun_store(YUYARISUN_LENT, uint16_t *value, uint8_t worker, uint8_t through, uint8_t link, uint8_t from);
 
 /* collect: one collector step. The value is the record freed, otherwise 0. Answers 0, 1 or 2. */

@@ -31,7 +31,7 @@ static int words(void)
     HOLD(strcmp(yuyarisun_words(YUYARISUN_NO_SUCH_LINK), "no such link") == 0);
     HOLD(strcmp(yuyarisun_words(YUYARISUN_SIZES_DIFFER), "two parts differ in sizes") == 0);
     HOLD(strcmp(yuyarisun_words(YUYARISUN_OUTPUT_SHORT), "the output is too short") == 0);
-    HOLD(strcmp(yuyarisun_words(17), yuyarisun_words(65535)) == 0);
+    HOLD(strcmp(yuyarisun_words(6), yuyarisun_words(65535)) == 0 && strcmp(yuyarisun_words(17), yuyarisun_words(65535)) == 0);
     return 0;
 }
 

@@ -1,7 +1,6 @@
 //! A pool in flat arrays of fixed size, as one would write it for speed and without proofs: marks
 //! are bytes, a link number has the largest K as its stride, and the first overwritten value of a
-//! changed link stands beside the link, so that no log is searched. Answer 6 is left out, for no
-//! sound pool gives it.
+//! changed link stands beside the link, so that no log is searched.
 
 use std::array;
 

@@ -28,8 +28,7 @@ pub enum Refusal {
     HoldsNone = 4,
     /// 5: make, and no record is free.
     NoneFree = 5,
-    /// 6: store that must log, and the worker's log has S entries. No sound pool gives it.
-    LogFull = 6,
+    // 6 is not used: no pool can produce a full log (document 02, request 4).
     /// 7: tag unknown, first field not the sizes, or sizes a second time.
     WrongTag = 7,
     /// 8: field length not the tag's.
@@ -54,13 +53,12 @@ pub enum Refusal {
 
 impl Refusal {
     /// All of them, in the order of their numbers.
-    pub const ALL: [Refusal; 16] = [
+    pub const ALL: [Refusal; 15] = [
         Refusal::WrongSize,
         Refusal::NotSound,
         Refusal::NoSuchWorker,
         Refusal::HoldsNone,
         Refusal::NoneFree,
-        Refusal::LogFull,
         Refusal::WrongTag,
         Refusal::WrongLength,
         Refusal::StopsShort,
@@ -73,12 +71,12 @@ impl Refusal {
         Refusal::OutputShort,
     ];
 
-    /// The documents' number, 1 to 16.
+    /// The documents' number, 1 to 16 but for 6, which is not used.
     pub fn number(self) -> u16 {
         self as u16
     }
 
-    /// The refusal that a number stands for; `None` for 0, which is "done", and above 16.
+    /// The refusal that a number stands for; `None` for 0, which is "done", for 6 and above 16.
     pub fn of_number(number: u16) -> Option<Refusal> {
         Refusal::ALL.into_iter().find(|refusal| refusal.number() == number)
     }
@@ -105,7 +103,6 @@ impl Refusal {
             Refusal::NoSuchWorker => "no such worker",
             Refusal::HoldsNone => "load or store through a register that holds none",
             Refusal::NoneFree => "make, and no record is free",
-            Refusal::LogFull => "store that must log, and the worker's log has S entries",
             Refusal::WrongTag => "tag unknown, first field not the sizes, or sizes a second time",
             Refusal::WrongLength => "field length not the tag's",
             Refusal::StopsShort => "the trace stops inside a field or before the end field",

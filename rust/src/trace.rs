@@ -61,7 +61,7 @@ pub fn answers_length(bytes: usize) -> usize {
 
 /// The answers that [`Lent::events`] and [`Lent::trace`] put into a slice: the number and the value
 /// of each event, in turn. Of more than one call was answered, or had room for, it gives what
-/// happens to stand there, and panics at a number above 16, which no call answers.
+/// happens to stand there, and panics at a number that no call answers.
 ///
 /// ```
 /// use yuyarisun::{answers_in, Record, Refusal};

@@ -198,9 +198,9 @@ fn lent_tables_are_checked_at_every_call() {
 #[test]
 fn refusals_have_the_documents_numbers_and_words() {
     let numbers: Vec<u16> = Refusal::ALL.into_iter().map(Refusal::number).collect();
-    assert_eq!(numbers, (1..=16).collect::<Vec<u16>>());
+    assert_eq!(numbers, (1..=16).filter(|number| *number != 6).collect::<Vec<u16>>());
     assert!(Refusal::ALL.into_iter().all(|refusal| Refusal::of_number(refusal.number()) == Some(refusal)));
-    assert_eq!((Refusal::of_number(0), Refusal::of_number(17)), (None, None));
+    assert_eq!([0, 6, 17].map(Refusal::of_number), [None; 3]);
     let words: BTreeSet<String> = Refusal::ALL.into_iter().map(|refusal| refusal.to_string()).collect();
     assert_eq!(words.len(), Refusal::ALL.len());
     let error: Box<dyn Error> = Refusal::NotSound.into();

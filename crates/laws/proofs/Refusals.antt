@@ -19,7 +19,7 @@ use Rattle.rules.specs.declared.Event.the-variants.{Make, Load, Store}
 use Rattle.rules.specs.Pool.{Pool, registerAt}
 use Rattle.rules.specs.Reply.{Outcome}
 use Rattle.rules.specs.Worker.{chosen}
-use Rattle.rules.specs.Outcome.{Test, noSuch, hasWorker, hasRegister, hasLink, holdsNone, noneFree, logFull, refusals, refused, decide}
+use Rattle.rules.specs.Outcome.{Test, noSuch, hasWorker, hasRegister, hasLink, holdsNone, noneFree, refusals, refused, decide}
 use Rattle.rules.specs.Sound.{Each}
 use Rattle.laws.proofs.Tests.{and-left, and-right}
 
@@ -99,11 +99,11 @@ module _ (s : Sizes) (p : Pool) where
       let full = eqb-false (chosen p .0) 0 (t .1 .1 .1 .0) in
       (there s w r (not-false _ (t .0)) (not-false _ (t .1 .0)), omega arith)
 
-  -- the first four tests of a load and of a store
-  can-reach : (w q r f : ℕ) (tests : List Test)
-      → Unrefused (noSuch (hasWorker s w) (hasRegister s q && hasRegister s r) (hasLink s f) ++ (holdsNone p w q ∷ tests))
+  -- the tests of a load and of a store
+  can-reach : (w q r f : ℕ)
+      → Unrefused (noSuch (hasWorker s w) (hasRegister s q && hasRegister s r) (hasLink s f) ++ (holdsNone p w q ∷ []))
       → RegisterThere s w q × (r < s .r) × LinkThere s p w q f
-  can-reach w q r f tests t =
+  can-reach w q r f t =
       let both = not-false _ (t .1 .0) in (
         there s w q (not-false _ (t .0)) (and-left _ (hasRegister s r) both),
         ltb-true r (s .r) (and-right (hasRegister s q) _ both),
@@ -112,8 +112,8 @@ module _ (s : Sizes) (p : Pool) where
 
   pub can-load : (w r q f : ℕ) → Unrefused (refusals s p (Load w r q f)) → RegisterThere s w q × (r < s .r) × LinkThere s p w q f
   unfolding refusals
-  can-load w r q f t = can-reach w q r f [] t
+  can-load w r q f t = can-reach w q r f t
 
   pub can-store : (w q f r : ℕ) → Unrefused (refusals s p (Store w q f r)) → RegisterThere s w q × (r < s .r) × LinkThere s p w q f
   unfolding refusals
-  can-store w q f r t = can-reach w q r f (logFull s p w q f ∷ []) t
+  can-store w q f r t = can-reach w q r f t

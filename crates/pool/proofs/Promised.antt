@@ -2,7 +2,7 @@
 -- result is what the contract's equation says. Nothing is assumed of the events, nor of what the tables held. The words are those of specs/, of `rules` and of
 -- `promises`.
 --     calls-are-a-run            answers, tables and the collector's record are those of a run of the rules from the fresh pool
---     never-one-two-six          no answer is 1, 2 or 6
+--     never-one-or-two           no answer is 1 or 2
 --     wrong-shape-refused        where the caller's own sizes or lengths are wrong, every call answers 1 and changes nothing
 --     reached-is-never-freed     what a worker can reach is never freed
 --     counts-at-a-close          at each close the counts are those of the values the collector last saw
@@ -41,7 +41,7 @@ use Rattle.fresh.specs.Fresh.{madeFresh}
 use Rattle.pool.specs.Calls.{called}
 use Rattle.pool.specs.Run.{left, callAnswers, afterCalls}
 use Rattle.pool.proofs.Checked.{wrong-shape}
-use Rattle.pool.proofs.Sixth.{OfAnEvent, never-one-two-six as fair}
+use Rattle.pool.proofs.Given.{OfAnEvent, never-one-or-two as fair}
 use Rattle.pool.proofs.Called.{laidOut, called-sound, run-lies, run-answers}
 
 -- the pool that lies in lent tables between two calls
@@ -107,8 +107,8 @@ module _ (s : Sizes) (t : Tables) (c : Collector) (fit : fits s t ≡ true) wher
   calls-are-a-run events =
       (ap (λ (x : LentPool). callAnswers s x events) starts ∙ run-answers s range (fresh s) (fresh-is-sound s) events, lies events)
 
-  pub never-one-two-six : (events : List Event) (e : Event) → OfAnEvent (number (call s (lentAfter events) e .answer))
-  never-one-two-six events e = subst (λ (x : Answer). OfAnEvent (number x)) (sym (answer-is events e)) (fair (run-sound events) e)
+  pub never-one-or-two : (events : List Event) (e : Event) → OfAnEvent (number (call s (lentAfter events) e .answer))
+  never-one-or-two events e = subst (λ (x : Answer). OfAnEvent (number x)) (sym (answer-is events e)) (fair (run-sound events) e)
 
   pub reached-is-never-freed : (events : List Event) (e : Event) (a : RecordNumber) → answersFreed a e (call s (lentAfter events) e .answer) ≡ true
       → (w : ℕ) → Reaches s (poolIn s (lentAfter events)) w a → ⊥

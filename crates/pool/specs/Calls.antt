@@ -12,5 +12,6 @@ use Rattle.clauses.specs.IsSound.{isSound}
 use Rattle.fresh.specs.Fits.{fits, refusedOn}
 
 -- "A single event checks the pool first": "Order for an event: 1, 2, 3, 4, then 5 or 6", with "3, 13, 14 where 3 stood" (document 02, request 2)
+-- and without 6 (request 4)
 unfoldable pub called : Sizes → Tables → Collector → Event → Called
 called s t c e = cond (fits s t) (cond (isSound s t c) (eventOn s t c e) (refusedOn NotSound t c)) (refusedOn WrongSize t c)

@@ -73,7 +73,7 @@ pub fn sound(
     )
 }
 
-// One event on a lent pool. Refusals in the order 1, 2, 3, 13, 14, 4, then 5 or 6; a refused event has the value 0 and changes nothing, neither a table nor the
+// One event on a lent pool. Refusals in the order 1, 2, 3, 13, 14, 4, then 5; a refused event has the value 0 and changes nothing, neither a table nor the
 // collector's record. Two wrong programs that the contract rules out: one that refuses everything or changes nothing, and one that is right on the first event of a
 // pool only.
 pub fn event(

@@ -16,7 +16,6 @@ pub fn refusal_number(why: Refusal) -> u16
         Refusal::NoSuchWorker => 3,
         Refusal::HoldsNone => 4,
         Refusal::NoneFree => 5,
-        Refusal::LogFull => 6,
         Refusal::WrongTag => 7,
         Refusal::WrongLength => 8,
         Refusal::StopsShort => 9,

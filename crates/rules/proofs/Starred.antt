@@ -11,13 +11,13 @@ use Rattle.rules.specs.Reply.{refusalNumber, number, value}
 use Rattle.rules.specs.Worker.{firstFree, firstAbove, lowest, chosen, makes, moves, drops, loads, added, logged, snooped, stores}
 use Rattle.rules.specs.Collect.{phaseAfter, onward, opens, snoops, madeBy, takes, clears, heldBy, scans, falls, rises, counted, counts}
 use Rattle.rules.specs.Collect.{unchangedFrom, passes, firstPassing, reclaimed, emptied, emptiedFrom, frees, closes, freesOrCloses, reclaims, phases, collects}
-use Rattle.rules.specs.Outcome.{noneFree, logFull, refusals, decide, does, outcome, start, answers, after, freeMarks, freeRecords}
+use Rattle.rules.specs.Outcome.{noneFree, refusals, decide, does, outcome, start, answers, after, freeMarks, freeRecords}
 use Rattle.rules.specs.Sound.{Each}
 use Rattle.rules.specs.Starred.{Row, doneFrom, runs, samePairs, sees, seesAll, another, holds}
 
 -- the test of a row, with every definition open that a run computes through
 unfoldable pub computes : Row → Bool
-unfolding inRange links linkNumber fresh flatten zipWith oldIn lookUp viewValue refusalNumber number value firstFree firstAbove lowest chosen makes moves drops loads added logged snooped stores phaseAfter onward opens snoops madeBy takes clears heldBy scans falls rises counted counts unchangedFrom passes firstPassing reclaimed emptied emptiedFrom frees closes freesOrCloses reclaims phases collects noneFree logFull refusals decide does outcome start answers after freeMarks freeRecords samePairs sees seesAll another holds
+unfolding inRange links linkNumber fresh flatten zipWith oldIn lookUp viewValue refusalNumber number value firstFree firstAbove lowest chosen makes moves drops loads added logged snooped stores phaseAfter onward opens snoops madeBy takes clears heldBy scans falls rises counted counts unchangedFrom passes firstPassing reclaimed emptied emptiedFrom frees closes freesOrCloses reclaims phases collects noneFree refusals decide does outcome start answers after freeMarks freeRecords samePairs sees seesAll another holds
 computes r = holds r
 
 abbrev every : List Row → Bool

@@ -10,20 +10,19 @@
 use Prim.Native.Nat.{ℕ, zero, suc}
 use mathlib.Core.Bool.{Bool, true, false, cond, not, _&&_}
 use mathlib.Core.List.{List, [], _∷_, _++_}
-use lib.Dec.{eqb, ltb, leb}
-use lib.ListN.{length}
+use lib.Dec.{eqb, ltb}
 use Rattle.rules.specs.declared.Sizes.{Sizes}
 use Rattle.rules.specs.declared.RecordNumber.{RecordNumber}
 use Rattle.rules.specs.declared.Event.{Event}
 use Rattle.rules.specs.declared.Event.the-variants.{Make, Move, Drop, Load, Store, Collect}
 use Rattle.rules.specs.declared.Refusal.{Refusal}
-use Rattle.rules.specs.declared.Refusal.the-variants.{WrongSize, NoSuchWorker, HoldsNone, NoneFree, LogFull, NoSuchRegister, NoSuchLink}
+use Rattle.rules.specs.declared.Refusal.the-variants.{WrongSize, NoSuchWorker, HoldsNone, NoneFree, NoSuchRegister, NoSuchLink}
 use Rattle.rules.specs.declared.Answer.{Answer}
 use Rattle.rules.specs.declared.Answer.the-variants.{Fresh, Refused}
-use Rattle.rules.specs.Size.{inRange, links, linkNumber}
-use Rattle.rules.specs.Pool.{Pool, registerAt, logAt, fresh}
+use Rattle.rules.specs.Size.{inRange}
+use Rattle.rules.specs.Pool.{Pool, registerAt, fresh}
 use Rattle.rules.specs.Reply.{number, value, Outcome}
-use Rattle.rules.specs.Worker.{chosen, mustLog, makes, moves, drops, loads, stores}
+use Rattle.rules.specs.Worker.{chosen, makes, moves, drops, loads, stores}
 use Rattle.rules.specs.Collect.{collects}
 
 -- ---- the refusals
@@ -59,19 +58,15 @@ holdsNone p w q = record { when = eqb (registerAt p w q .0) 0; why = HoldsNone }
 unfoldable pub noneFree : Pool → Test
 noneFree p = record { when = eqb (chosen p .0) 0; why = NoneFree }
 
--- "6: store that must log, and the worker's log has S entries"
-unfoldable pub logFull : Sizes → Pool → ℕ → ℕ → ℕ → Test
-logFull s p w q f =
-    record { when = mustLog p (linkNumber s (registerAt p w q) f) && leb (links s) (length (logAt p w)); why = LogFull }
-
--- "Order for an event: .. 3, 4, then 5 or 6", and "3, 13, 14 where 3 stood": 3, 13, 14, 4, then 5 or 6
+-- "Order for an event: .. 3, 4, then 5 or 6", "3, 13, 14 where 3 stood" (document 02, request 2), and "take the test and the answer out" (request 4): 3, 13, 14, 4,
+-- then 5
 unfoldable pub refusals : Sizes → Pool → Event → List Test
 refusals s p (Make w r) = noSuch (hasWorker s w) (hasRegister s r) true ++ (noneFree p ∷ [])
 refusals s p (Move w r q) = noSuch (hasWorker s w) (hasRegister s r && hasRegister s q) true
 refusals s p (Drop w r) = noSuch (hasWorker s w) (hasRegister s r) true
 refusals s p (Load w r q f) = noSuch (hasWorker s w) (hasRegister s q && hasRegister s r) (hasLink s f) ++ (holdsNone p w q ∷ [])
 refusals s p (Store w q f r) =
-    noSuch (hasWorker s w) (hasRegister s q && hasRegister s r) (hasLink s f) ++ (holdsNone p w q ∷ logFull s p w q f ∷ [])
+    noSuch (hasWorker s w) (hasRegister s q && hasRegister s r) (hasLink s f) ++ (holdsNone p w q ∷ [])
 refusals s p Collect = []
 
 -- "A refused event has the value 0 and changes nothing."

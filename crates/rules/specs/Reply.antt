@@ -2,7 +2,7 @@
 --     refusalNumber    the number of a refusal
 --     number, value    the number and the value of an answer
 --     Outcome          an answer, and the pool after it
--- Where a refusal is given exactly is said by the definitions that give it: 3 to 6, 13 and 14 by `refusals` of Outcome, 1 for the sizes by `start` there.
+-- Where a refusal is given exactly is said by the definitions that give it: 3 to 5, 13 and 14 by `refusals` of Outcome, 1 for the sizes by `start` there.
 -- Assumes nothing.
 use Prim.Native.Nat.{ℕ}
 use Rattle.rules.specs.declared.Refusal.{Refusal}
@@ -12,7 +12,6 @@ use Rattle.rules.specs.declared.Refusal.the-variants.{
   NoSuchWorker,
   HoldsNone,
   NoneFree,
-  LogFull,
   WrongTag,
   WrongLength,
   StopsShort,
@@ -35,7 +34,7 @@ refusalNumber NotSound = 2
 refusalNumber NoSuchWorker = 3
 refusalNumber HoldsNone = 4
 refusalNumber NoneFree = 5
-refusalNumber LogFull = 6
+-- "The number 6 isn't used again." (document 02, request 4)
 refusalNumber WrongTag = 7
 refusalNumber WrongLength = 8
 refusalNumber StopsShort = 9

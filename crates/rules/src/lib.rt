@@ -44,8 +44,7 @@ pub enum Refusal {
     HoldsNone,
     // 5: make, and no record is free.
     NoneFree,
-    // 6: store that must log, and the worker's log has S entries.
-    LogFull,
+    // 6 is not used: no pool can produce a full log (document 02, request 4).
     // 7: tag unknown, first field not the sizes, or sizes a second time.
     WrongTag,
     // 8: field length not the tag's.

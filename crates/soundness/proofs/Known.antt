@@ -7,7 +7,6 @@
 --     value-has-count     phase 6: nor is any that falls while a record is freed
 --     history-has-room    phase 2: the history has room for the log that is added
 --     one-entry           phase 5: the one entry that the view value looks for exists and is the only one
---     log-has-room        a store that must log has room
 -- Assumes nothing.
 use Prim.Native.Nat.{ℕ, _+_, _-_, _≤_, _<_}
 use mathlib.Core.Path.{_≡_, refl, ap, _∙_}
@@ -28,10 +27,9 @@ use Rattle.rules.specs.Sound.{Sound, EntryInRange, countsFor}
 use Rattle.laws.proofs.Number.{link-inside}
 use Rattle.laws.proofs.Change.{emptied-keeps}
 use Rattle.laws.proofs.Search.{Passed, passed}
-use Rattle.laws.proofs.Lists.{length-flatten, Each-at}
+use Rattle.laws.proofs.Lists.{Each-at}
 use Rattle.laws.proofs.Tally.{tally-most}
-use Rattle.laws.proofs.Room.{room-left}
-use Rattle.soundness.proofs.Core.{Core, core, core-in, position-in, history-room, times-most, links-in-range}
+use Rattle.soundness.proofs.Core.{Core, core-in, position-in, history-room}
 use Rattle.soundness.proofs.Take.{core-taken}
 use Rattle.soundness.proofs.Count.{old-counted, value-counted}
 use Rattle.soundness.proofs.Reclaim.{core-emptied-from}
@@ -69,15 +67,6 @@ module _ {s : Sizes} {p : Pool} (h : Sound s p) where
   pub one-entry : (l : LinkNumber) → p .collector .phase ≡ 5 → l .0 < links s → changedAt p l ≡ true → times l (allLogs p) ≡ 1
   unfolding times
   one-entry l e k on = omega (arith, core-in h 5 e .marks l k, ap bit on)
-
-  pub log-has-room : (w : ℕ) (l : LinkNumber) → l .0 < links s → changedAt p l ≡ false → length (logAt p w) < links s
-  unfolding allLogs
-  log-has-room w l k off =
-      omega (
-        arith,
-        length-flatten (p .workers .log) w,
-        room-left (allLogs p) (links s) (links-in-range s (allLogs p) (h .logs)) (times-most (core h)) l k (let c = core h in omega (arith, c .marks l k, ap bit off)),
-      )
 
   -- link f of the record that is freed, once the links before it are emptied
   pub value-has-count : (a : RecordNumber) (f : ℕ) → p .collector .phase ≡ 6 → 1 ≤ a .0 → a .0 ≤ s .n → passes s p a ≡ true → f < s .k

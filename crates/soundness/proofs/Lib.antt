@@ -8,6 +8,7 @@
 --     Fresh      the fresh pool
 --     Kept       the theorems
 --     Known      facts of every sound pool
+--     NoFullLog  a worker's log has room when a store must log
 --     Used       the used records, by the answers of a run
 pub mod Core
 pub mod Parts
@@ -21,4 +22,5 @@ pub mod Events
 pub mod Fresh
 pub mod Kept
 pub mod Known
+pub mod NoFullLog
 pub mod Used

@@ -18,7 +18,7 @@ use lib.ListN.{length}
 use Rattle.rules.specs.declared.Sizes.{Sizes}
 use Rattle.rules.specs.declared.RecordNumber.{RecordNumber}
 use Rattle.rules.specs.declared.Refusal.{Refusal}
-use Rattle.rules.specs.declared.Refusal.the-variants.{WrongSize, NotSound, NoSuchWorker, HoldsNone, NoneFree, LogFull, WrongTag, WrongLength, StopsShort, WrongStep, ExtraByte, WrongCount, NoSuchRegister, NoSuchLink, SizesDiffer, OutputShort}
+use Rattle.rules.specs.declared.Refusal.the-variants.{WrongSize, NotSound, NoSuchWorker, HoldsNone, NoneFree, WrongTag, WrongLength, StopsShort, WrongStep, ExtraByte, WrongCount, NoSuchRegister, NoSuchLink, SizesDiffer, OutputShort}
 use Rattle.rules.specs.declared.Answer.the-variants.{Refused}
 use Rattle.rules.specs.declared.Event.{Event}
 use Rattle.rules.specs.declared.Event.the-variants.{Make, Move, Drop, Load, Store, Collect}
@@ -59,7 +59,6 @@ refusal-number NotSound = refl
 refusal-number NoSuchWorker = refl
 refusal-number HoldsNone = refl
 refusal-number NoneFree = refl
-refusal-number LogFull = refl
 refusal-number WrongTag = refl
 refusal-number WrongLength = refl
 refusal-number StopsShort = refl

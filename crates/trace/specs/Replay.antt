@@ -67,7 +67,8 @@ goes (suc turns) takes bytes place reader left =
     elim (x .field) [
       -- "An accepted sizes field makes the pool fresh, whatever the tables held."
       | field.Sizes s ↦ cond (takes s) (onward (stands s (fresh s))) (stops WrongSize place left)
-      -- "3 to 6 are that event's answer and the replay goes on", and so are 13 and 14: "all else that met a 3 is unchanged" (document 02, request 2)
+      -- "3 to 6 are that event's answer and the replay goes on", and so are 13 and 14: "all else that met a 3 is unchanged" (document 02, request 2); 6
+      -- is given no more (request 4)
       | field.Event step e ↦
           elim left [
             | untouched ↦ stops StopsShort place untouched

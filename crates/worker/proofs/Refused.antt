@@ -2,27 +2,26 @@
 --     no-such, no-such-register             "3 means no such worker. Refusals: 13 register, 14 link, in the order 3, 13, 14 where 3 stood"
 --     load-holds-none, store-holds-none     "4: load or store through a register that holds none"
 --     make-none-free                        "5: make, and no record is free"
---     store-log-full                        "6: store that must log, and the worker's log has S entries"
 --     unrefused                             an event that no test refuses does what it does
 -- Assumes nothing.
 use Prim.Native.Nat.{ℕ}
 use mathlib.Core.Path.{_≡_, refl, sym, ap, _∙_}
 use mathlib.Core.Bool.{Bool, true, false, _&&_, true≢false}
 use mathlib.Core.List.{List, [], _∷_, _++_}
-use borrow.Author.Tests.{eq-eqb, ne-eqb}
+use borrow.Author.Tests.{eq-eqb}
 use Rattle.rules.specs.declared.Sizes.{Sizes}
 use Rattle.rules.specs.declared.Event.{Event}
 use Rattle.rules.specs.declared.Event.the-variants.{Make, Load, Store}
 use Rattle.rules.specs.declared.Refusal.{Refusal}
-use Rattle.rules.specs.declared.Refusal.the-variants.{HoldsNone, NoneFree, LogFull}
+use Rattle.rules.specs.declared.Refusal.the-variants.{HoldsNone, NoneFree}
 use Rattle.rules.specs.declared.Answer.the-variants.{Refused}
 use Rattle.rules.specs.declared.Collector.{Collector}
 use Rattle.rules.specs.Pool.{Pool, registerAt}
 use Rattle.rules.specs.Reply.{Outcome}
 use Rattle.rules.specs.Worker.{chosen}
-use Rattle.rules.specs.Outcome.{Test, noSuch, hasWorker, hasRegister, hasLink, holdsNone, noneFree, logFull, refusals, refused, decide, does, outcome}
+use Rattle.rules.specs.Outcome.{Test, noSuch, hasWorker, hasRegister, hasLink, holdsNone, noneFree, refusals, refused, decide, does, outcome}
 use Rattle.laws.proofs.Tests.{never}
-use Rattle.laws.proofs.Refusals.{Unrefused, hasNumbers, decide-first, decide-next, decide-all}
+use Rattle.laws.proofs.Refusals.{Unrefused, hasNumbers, decide-first, decide-all}
 use Rattle.tables.specs.Tables.{Tables}
 use Rattle.tables.specs.Lie.{poolOf}
 use Rattle.tables.specs.Known.{Known}
@@ -100,13 +99,5 @@ module _ {s : Sizes} {t : Tables} {c : Collector} (known : Known s t c) where
   pub store-holds-none : (w q f r : ℕ) → hasNumbers s w q r f ≡ true → registerAt p w q .0 ≡ 0 → RefusedOn (Store w q f r) HoldsNone
   unfolding refusals
   store-holds-none w q f r here empty =
-      let full = logFull s p w q f in
       refused-behind (Store w q f r) (hasWorker s w) (hasRegister s q && hasRegister s r) (hasLink s f) refl here HoldsNone
-      (decide-first p (holdsNone p w q) (full ∷ []) (does s p (Store w q f r)) (eq-eqb (registerAt p w q .0) 0 empty))
-
-  pub store-log-full : (w q f r : ℕ) → hasNumbers s w q r f ≡ true → (registerAt p w q .0 ≡ 0 → ⊥) → logFull s p w q f .when ≡ true → RefusedOn (Store w q f r) LogFull
-  unfolding refusals logFull
-  store-log-full w q f r here some when =
-      let full = logFull s p w q f in
-      refused-behind (Store w q f r) (hasWorker s w) (hasRegister s q && hasRegister s r) (hasLink s f) refl here LogFull
-      (decide-next p (holdsNone p w q) (full ∷ []) (does s p (Store w q f r)) (ne-eqb (registerAt p w q .0) 0 some) ∙ decide-first p full [] (does s p (Store w q f r)) when)
+      (decide-first p (holdsNone p w q) [] (does s p (Store w q f r)) (eq-eqb (registerAt p w q .0) 0 empty))

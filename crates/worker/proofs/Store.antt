@@ -1,14 +1,15 @@
 -- What a store does to known tables, where nothing refuses it.
 --     logged-on      "(link, its value) is added to w's log and the mark goes on", where the mark is off
+--     room-stands    there is room for an entry
 --     stored         the event
 -- Assumes nothing.
 use Prim.Native.Nat.{ℕ, _+_, _*_, _<_}
-use mathlib.Core.Path.{_≡_, refl, sym, ap, _∙_}
+use mathlib.Core.Path.{_≡_, refl, sym, ap, _∙_, subst}
 use mathlib.Core.Bool.{Bool, true, false, cond, not, _&&_}
 use mathlib.Core.List.{List, [], _∷_, _++_}
 use native.Mathlib.Omega.{arith}
-use borrow.Author.Tests.{ne-eqb, leb-false}
-use lib.Dec.{eqb, leb}
+use borrow.Author.Tests.{ne-eqb}
+use lib.Dec.{eqb}
 use lib.ListN.{length, getD, set}
 use Rattle.rules.specs.declared.Sizes.{Sizes}
 use Rattle.rules.specs.declared.RecordNumber.{RecordNumber}
@@ -19,9 +20,11 @@ use Rattle.rules.specs.declared.Collector.{Collector}
 use Rattle.rules.specs.Size.{links, linkNumber}
 use Rattle.rules.specs.Pool.{Entry, Pool, withRecord, valueAt, changedAt, registerAt, snoopsAt, logAt, withHeld, withValue, withLog}
 use Rattle.rules.specs.Worker.{added, logged, snooped, stores}
-use Rattle.rules.specs.Outcome.{hasWorker, hasRegister, hasLink, logFull, refusals, does}
+use Rattle.rules.specs.Outcome.{hasWorker, hasRegister, hasLink, refusals, does}
 use Rattle.laws.proofs.Change.{logged-keeps, stored-has}
 use Rattle.laws.proofs.Refusals.{hasNumbers, numbers-there}
+use Rattle.soundness.proofs.Known.{link-below}
+use Rattle.soundness.proofs.NoFullLog.{no-log-is-full}
 use Rattle.tables.specs.Tables.{Tables, putHeld, putValues, putChanged, putLogs, putLengths}
 use Rattle.tables.specs.Lie.{isOn, bits, recordNumber, room, poolOf, tablesOf}
 use Rattle.tables.specs.Known.{Known}
@@ -139,18 +142,13 @@ module _ {s : Sizes} {t : Tables} {c : Collector} (known : Known s t c) where
   abbrev pub linkThrough : ℕ → ℕ → ℕ → LinkNumber
   linkThrough w q f = linkNumber s (recordNumber (getD (t .registers) (place w q) 0)) f
 
-  -- "6": the test on the tables
-  pub full-stands : (w q f r : ℕ) → hasNumbers s w q r f ≡ true
-      → logFull s p w q f .when ≡ (not (isOn (getD (t .changed) (linkThrough w q f .0) 0)) && leb (links s) (getD (t .lengths) w 0))
-  unfolding logFull
-  full-stands w q f r here =
-      let at = numbers-there s w q r f here in
-      (λ j. not (changedAt p (linkNumber s (base-stands known w q r f here j) f)) && leb (links s) (log-length s t c known w (at .0 .worker) j))
-      ∙ ap (λ (b : Bool). not b && leb (links s) (getD (t .lengths) w 0)) (changed-stands s t c (linkThrough w q f))
+  -- "a worker's log in a sound pool never has S entries when a store must log" (document 02, request 4), in the tables
+  pub room-stands : (w : ℕ) (l : LinkNumber) → w < s .w → l .0 < links s → isOn (getD (t .changed) (l .0) 0) ≡ false → getD (t .lengths) w 0 < links s
+  room-stands w l k inside off =
+      omega (arith, no-log-is-full (known .tables .sound) w l inside (ap not (changed-stands s t c l ∙ off)), log-length s t c known w k)
 
   pub stored : (w q f r : ℕ) → hasNumbers s w q r f ≡ true
       → (getD (t .registers) (place w q) 0 ≡ 0 → ⊥)
-      → (not (isOn (getD (t .changed) (linkThrough w q f .0) 0)) && leb (links s) (getD (t .lengths) w 0)) ≡ false
       → let l : LinkNumber = linkThrough w q f in
       let old : RecordNumber = recordNumber (getD (t .values) (l .0) 0) in
       let new : RecordNumber = recordNumber (getD (t .registers) (place w r) 0) in
@@ -161,19 +159,21 @@ module _ {s : Sizes} {t : Tables} {c : Collector} (known : Known s t c) where
         tables = putHeld (heldAfter w new (t .snoops) (t .held)) (putValues (set (t .values) (l .0) (new .0)) (loggedOn s w l old t));
       }
   unfolding refusals does stores snooped
-  stored w q f r here some free =
+  stored w q f r here some =
       let at = numbers-there s w q r f here in
       let l : LinkNumber = linkThrough w q f in
       let base = base-stands known w q r f here in
       let new : registerAt p w r ≡ recordNumber (getD (t .registers) (place w r) 0) = register-stands s t c w r (at .0 .worker) (at .1) in
       let link : linkNumber s (registerAt p w q) f ≡ l = ap (λ (a : RecordNumber). linkNumber s a f) base in
-      let unempty : eqb (registerAt p w q .0) 0 ≡ false = ne-eqb (registerAt p w q .0) 0 (λ e. some (ap (λ (a : RecordNumber). a .0) (sym base) ∙ e)) in
+      let full : registerAt p w q .0 ≡ 0 → ⊥ = (λ e. some (ap (λ (a : RecordNumber). a .0) (sym base) ∙ e)) in
+      let inside : l .0 < links s = subst (λ (m : LinkNumber). m .0 < links s) link (link-below (known .tables .sound) w q f (omega arith) (at .2)) in
+      let unempty : eqb (registerAt p w q .0) 0 ≡ false = ne-eqb (registerAt p w q .0) 0 full in
       done-on known (Store w q f r) (stores s w q f r p) _
       (unrefused known (Store w q f r) (hasWorker s w) (hasRegister s q && hasRegister s r) (hasLink s f) refl here
-      (unempty, (full-stands w q f r here ∙ free, tt)))
+      (unempty, tt))
       (ap (λ (m : LinkNumber). tablesOf s (snooped w (registerAt p w r) (withValue m (registerAt p w r) (logged w m p)))) link
       ∙ ap (λ (a : RecordNumber). tablesOf s (snooped w a (withValue l a (logged w l p)))) new
-      ∙ store-tables w l (recordNumber (getD (t .registers) (place w r) 0)) (at .0 .worker) (λ off. room-left off))
+      ∙ store-tables w l (recordNumber (getD (t .registers) (place w r) 0)) (at .0 .worker) (room-stands w l (at .0 .worker) inside))
       ∙ (λ j.
       record {
         answer = Stored ((ap (valueAt p) link ∙ value-stands s t c l) j);
@@ -182,6 +182,3 @@ module _ {s : Sizes} {t : Tables} {c : Collector} (known : Known s t c) where
             putHeld (heldAfter w (recordNumber (getD (t .registers) (place w r) 0)) (t .snoops) (t .held))
             (putValues (set (t .values) (l .0) (getD (t .registers) (place w r) 0)) (loggedOn s w l (recordNumber (getD (t .values) (l .0) 0)) t));
       })
-    where
-      room-left : isOn (getD (t .changed) (linkThrough w q f .0) 0) ≡ false → getD (t .lengths) w 0 < links s
-      room-left off = leb-false (links s) (getD (t .lengths) w 0) (ap (λ (b : Bool). not b && leb (links s) (getD (t .lengths) w 0)) (sym off) ∙ free)

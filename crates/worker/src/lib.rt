@@ -16,23 +16,19 @@ use rules::Sizes;
 use tables::mark::is_on;
 use tables::mark::set_mark;
 use tables::place::last_place;
-use tables::place::link_count;
 use tables::place::link_number;
 use tables::place::log_place;
 use tables::place::record_place;
 use tables::place::register_place;
 use tables::place::wide;
 ghost use mathlib.Core.Path.{_≡_};
-ghost use mathlib.Core.Bool.{true, not, _&&_};
 ghost use Prim.Native.Nat.{_+_, _≤_, _<_};
-ghost use lib.Dec.{leb};
-ghost use lib.ListN.{length, getD};
-ghost use Rattle.rules.specs.Size.{inRange, links};
+ghost use lib.ListN.{length};
 ghost use Rattle.rules.specs.Pool.{Pool};
 ghost use Rattle.rules.specs.Worker.{chosen as chosenIn};
 ghost use Rattle.rules.specs.Outcome.{hasWorker, hasRegister, hasLink};
 ghost use Rattle.tables.specs.Tables.{Tables, putRegisters};
-ghost use Rattle.tables.specs.Lie.{isOn, marks};
+ghost use Rattle.tables.specs.Lie.{marks};
 ghost use Rattle.tables.specs.Event.{SomePool, Answers};
 ghost use Rattle.worker.specs.Lent.{makesOn, loadsOn, storesOn, logsOn, loggedOn, RoomToLog, heldAfter};
 ghost use Rattle.worker.specs.Raw.{wrongNumber, allOn, freeFrom};
@@ -216,17 +212,8 @@ pub fn loads(s: Sizes, values: &[u16], registers: &mut [u16], w: u8, r: u8, q: u
     Answer::Loaded(RecordNumber(a))
 }
 
-// "6: store that must log, and the worker's log has S entries"
-fn log_full(s: Sizes, changed: &[u16], lengths: &[u16], w: u8, l: LinkNumber) -> bool
-    requires { ⌜ (inRange s ≡ true) × (l .0 < length (now changed)) × (w < length (now lengths)) ⌝ }
-    ensures { λ x. ⌜ x ≡ (not (isOn (getD (now (changed .entry)) (l .0) 0)) && leb (links s) (getD (now (lengths .entry)) w 0)) ⌝ }
-{
-    let link = wide(l.0);
-    let n = lengths[w as usize];
-    !is_on(changed, link) & (link_count(s) <= n)
-}
-
-// "if the link's changed mark is off, (link, its value) is added to w's log and the mark goes on". There is room for it, and the mark has been read.
+// "if the link's changed mark is off, (link, its value) is added to w's log and the mark goes on". There is room for it (`no-log-is-full` of
+// soundness/proofs/NoFullLog.antt), and the mark has been read.
 fn logged(
     s: Sizes,
     changed: &mut [u16],
@@ -300,9 +287,6 @@ pub fn stores(
         return Answer::Refused(Refusal::HoldsNone);
     }
     let l = link_number(s, RecordNumber(base), f as u16);
-    if log_full(s, changed, lengths, w, l) {
-        return Answer::Refused(Refusal::LogFull);
-    }
     let link = wide(l.0);
     let old = values[link];
     let from = register_place(s, w as u16, r as u16);

@@ -1,10 +1,10 @@
 //! The events, their answers, and "Order for an event: 1, 2, 3, 4, then 5 or 6", with "3, 13, 14 where 3
-//! stood" (document 02, request 2).
+//! stood" (document 02, request 2) and without 6 (request 4).
 //!
 //! 1 and 2 are not here: "a whole trace starts fresh and need not check again", and its sizes are
 //! judged when they are read.
 
-use crate::pool::{Link, Pool, Record, Sizes};
+use crate::pool::{Pool, Record, Sizes};
 use crate::{collector, worker};
 
 /// An event with the numbers a trace gives it, in the trace's order.
@@ -28,7 +28,6 @@ pub struct Answer {
 pub const NO_SUCH_WORKER: u8 = 3;
 pub const THROUGH_NONE: u8 = 4;
 pub const NO_FREE_RECORD: u8 = 5;
-pub const LOG_FULL: u8 = 6;
 pub const NO_SUCH_REGISTER: u8 = 13;
 pub const NO_SUCH_LINK: u8 = 14;
 
@@ -48,8 +47,8 @@ pub fn happen(pool: &mut Pool, event: Event) -> Answer {
     Answer { number: 0, value }
 }
 
-/// "Order for an event: ... 3, 4, then 5 or 6", and "in the order 3, 13, 14 where 3 stood" (document 02,
-/// request 2).
+/// "Order for an event: ... 3, 4, then 5 or 6", "in the order 3, 13, 14 where 3 stood" (document 02,
+/// request 2), and "take the test and the answer out" (request 4).
 fn refusal(pool: &Pool, event: Event) -> Option<u8> {
     if names_no_such_worker(pool.sizes, event) {
         Some(NO_SUCH_WORKER)
@@ -61,8 +60,6 @@ fn refusal(pool: &Pool, event: Event) -> Option<u8> {
         Some(THROUGH_NONE)
     } else if makes_without_a_free_record(pool, event) {
         Some(NO_FREE_RECORD)
-    } else if must_log_into_a_full_log(pool, event) {
-        Some(LOG_FULL)
     } else {
         None
     }
@@ -112,17 +109,4 @@ pub fn goes_through_none(pool: &Pool, event: Event) -> bool {
 /// "5: make, and no record is free."
 pub fn makes_without_a_free_record(pool: &Pool, event: Event) -> bool {
     matches!(event, Event::Make { .. }) && pool.free_records() == 0
-}
-
-/// "6: store that must log, and the worker's log has S entries."
-fn must_log_into_a_full_log(pool: &Pool, event: Event) -> bool {
-    let Event::Store { w, q, f, .. } = event else {
-        return false;
-    };
-    let worker = &pool.workers[usize::from(w)];
-    let Some(of) = worker.registers[usize::from(q)] else {
-        return false;
-    };
-    let link = Link { of, f: f.into() };
-    !pool.changed.contains(&link) && worker.log.len() >= pool.sizes.s()
 }

@@ -16,11 +16,12 @@ use crate::trace::Kind;
 
 const KINDS: [Kind; 6] = [Kind::Make, Kind::Move, Kind::Drop, Kind::Load, Kind::Store, Kind::Collect];
 
-/// Answer numbers that no trace reaches, with the reason. They must stay at 0.
-const UNREACHED: [(usize, &str); 2] = [
-    (2, "not from a trace: it starts fresh, every event leaves a sound pool, none is checked again"),
-    (6, "not on a sound pool: a link that must be logged stands in no log, so each has fewer than S entries"),
-];
+/// The answer numbers of events and traces. "The number 6 isn't used again" (document 02, request 4).
+const NUMBERS: [u8; 14] = [0, 1, 2, 3, 4, 5, 7, 8, 9, 10, 11, 12, 13, 14];
+
+/// The one of them that no trace reaches, with the reason. It must stay at 0.
+const UNREACHED: (u8, &str) =
+    (2, "not from a trace: it starts fresh, every event leaves a sound pool, none is checked again");
 
 /// What a make comes upon, of the records above the last made, below it, and that record itself.
 pub const MAKES: [&str; 5] = [
@@ -99,7 +100,7 @@ const SHARED: &str = "openings with a record in the reach of two workers (no eve
 pub struct Tally {
     pub traces: u64,
     whole: u64,
-    answers: [u64; 15],
+    answers: [u64; NUMBERS.len()],
     /// Events answered with 0, by kind and by the phase they came in.
     done: [[u64; 7]; KINDS.len()],
     damages: BTreeMap<&'static str, u64>,
@@ -113,7 +114,7 @@ pub struct Tally {
 impl Tally {
     /// One event, with the pool it came upon.
     pub fn event(&mut self, before: &Pool, event: Event, answer: Answer) {
-        self.answers[usize::from(answer.number)] += 1;
+        self.answered(answer.number);
         for (times, came) in self.wrongs.iter_mut().zip(wrongs(before, event)) {
             *times += u64::from(came);
         }
@@ -130,6 +131,11 @@ impl Tally {
             Event::Make { w, .. } => self.make(before, w, answer.value),
             _ => {}
         }
+    }
+
+    fn answered(&mut self, number: u8) {
+        let place = NUMBERS.into_iter().position(|other| other == number);
+        self.answers[place.unwrap_or_else(|| panic!("{number} is no answer number"))] += 1;
     }
 
     fn store(&mut self, before: &Pool, numbers: [u8; 4]) {
@@ -187,7 +193,7 @@ impl Tally {
         self.last_maker.clear();
         match ending {
             Ending::Whole => self.whole += 1,
-            Ending::Refused(refusal) => self.answers[usize::from(refusal.number)] += 1,
+            Ending::Refused(refusal) => self.answered(refusal.number),
             Ending::Broken { .. } => {}
         }
         if let Some(damage) = damage {
@@ -211,9 +217,8 @@ impl Tally {
                 faults.push(format!("{verb}: {what}"));
             }
         };
-        for (number, times) in self.answers.iter().enumerate() {
-            let reachable = UNREACHED.iter().all(|(unreached, _)| *unreached != number);
-            judge(format!("answer {number}"), *times, reachable);
+        for (number, times) in NUMBERS.into_iter().zip(self.answers) {
+            judge(format!("answer {number}"), times, number != UNREACHED.0);
         }
         for (row, kind) in self.done.iter().zip(KINDS) {
             for (phase, times) in row.iter().enumerate() {
@@ -236,9 +241,9 @@ impl fmt::Display for Tally {
     fn fmt(&self, out: &mut fmt::Formatter) -> fmt::Result {
         writeln!(out, "{} traces: {} whole, {} refused", self.traces, self.whole, self.traces - self.whole)?;
         writeln!(out, "how often each answer number was given:")?;
-        for (number, times) in self.answers.iter().enumerate() {
-            let why = UNREACHED.iter().find(|(unreached, _)| *unreached == number);
-            let note = why.map_or(String::new(), |(_, why)| format!("  ({why})"));
+        let (unreached, why) = UNREACHED;
+        for (number, times) in NUMBERS.into_iter().zip(self.answers) {
+            let note = if number == unreached { format!("  ({why})") } else { String::new() };
             writeln!(out, "{number:>4} {times:>10}{note}")?;
         }
         writeln!(

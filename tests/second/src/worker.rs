@@ -61,11 +61,14 @@ pub fn store(pool: &mut Pool, w: usize, q: usize, f: usize, r: usize) -> Option<
 }
 
 /// "if the link's changed mark is off, (link, its value) is added to w's log and the mark goes
-/// on." "A store of an equal value is logged like any other."
+/// on." "A store of an equal value is logged like any other." "A worker's log in a sound pool never
+/// has S entries when a store must log" (document 02, request 4): it stops here if one has.
 fn log_first_overwritten(pool: &mut Pool, w: usize, link: Link) {
     if pool.changed.insert(link) {
         let old = pool.value(link);
-        pool.workers[w].log.push(Entry { link, old });
+        let log = &mut pool.workers[w].log;
+        assert!(log.len() < pool.sizes.s(), "a store must log, and the log of worker {w} has S entries");
+        log.push(Entry { link, old });
     }
 }
 
@@ -73,5 +76,22 @@ fn log_first_overwritten(pool: &mut Pool, w: usize, link: Link) {
 fn snoop(pool: &mut Pool, w: usize, stored: Option<Record>) {
     if pool.workers[w].snoops {
         pool.held.extend(stored);
+    }
+}
+
+#[cfg(test)]
+mod tests {
+    use super::*;
+    use crate::pool::Sizes;
+
+    /// A log with S entries whose only link is not marked, which no sound pool has.
+    #[test]
+    #[should_panic(expected = "a store must log, and the log of worker 0 has S entries")]
+    fn a_full_log_stops_it() {
+        let mut pool = Pool::fresh(Sizes { n: 1, k: 1, w: 1, r: 1 });
+        make(&mut pool, 0, 0);
+        store(&mut pool, 0, 0, 0, 0);
+        pool.changed.clear();
+        store(&mut pool, 0, 0, 0, 0);
     }
 }

@@ -23,8 +23,7 @@ pub fn kind(event: Event) -> &'static str {
     }
 }
 
-/// Which numbers a kind of event is answered with on a sound pool. 6 is not among them: a link that
-/// must be logged stands in no log, so each has fewer than S entries.
+/// Which numbers a kind of event is answered with on a sound pool.
 fn numbers(kind: &str) -> &'static [u8] {
     match kind {
         "make" => &[0, 3, 13, 5],

@@ -50,9 +50,6 @@ enum-told-14 c = search needs
 enum-told-15 : tie.Need-enum-told-15
 enum-told-15 c = search needs
 
-enum-told-16 : tie.Need-enum-told-16
-enum-told-16 c = search needs
-
 returns : tie.Need-returns
 unfolding refusalNumber
 returns c = rw (c .enum-told .given .1) refl
@@ -113,10 +110,6 @@ returns-15 : tie.Need-returns-15
 unfolding refusalNumber
 returns-15 c = rw (c .enum-told15 .given .1) refl
 
-returns-16 : tie.Need-returns-16
-unfolding refusalNumber
-returns-16 c = rw (c .enum-told16 .given .1) refl
-
 pub refusal-number-spec : {M : Type 1} → statement M
 refusal-number-spec =
     tie.close
@@ -136,7 +129,6 @@ refusal-number-spec =
     enum-told-13
     enum-told-14
     enum-told-15
-    enum-told-16
     returns
     returns-2
     returns-3
@@ -151,5 +143,4 @@ refusal-number-spec =
     returns-12
     returns-13
     returns-14
-    returns-15
-    returns-16)
+    returns-15)

@@ -1,25 +1,24 @@
--- `worker::stores` meets its contract: it is one of three refusals, or `stored`. Assumes nothing.
+-- `worker::stores` meets its contract: it is one of two refusals, or `stored`. Assumes nothing.
 use Prim.Native.Nat.{ℕ, _+_, _*_}
 use mathlib.Core.Path.{_≡_, refl, sym, ap, _∙_}
-use mathlib.Core.Bool.{Bool, true, false, not, _&&_}
+use mathlib.Core.Bool.{true, _&&_}
 use native.Mathlib.Omega.{arith}
-use borrow.Author.Tests.{not-true, not-false, leb-false}
-use lib.Dec.{leb}
+use borrow.Author.Tests.{not-true, not-false}
 use lib.ListN.{getD, set}
 use Rattle.rules.specs.declared.RecordNumber.{RecordNumber}
 use Rattle.rules.specs.declared.LinkNumber.{LinkNumber}
 use Rattle.rules.specs.declared.Event.the-variants.{Store}
 use Rattle.rules.specs.declared.Answer.the-variants.{Stored}
-use Rattle.rules.specs.Size.{links, linkNumber}
+use Rattle.rules.specs.Size.{linkNumber}
 use Rattle.rules.specs.Outcome.{refusals}
 use Rattle.laws.proofs.Refusals.{hasNumbers, numbers-there}
 use Rattle.tables.specs.Tables.{Tables, putHeld, putValues}
 use Rattle.tables.specs.Lie.{isOn, recordNumber}
 use Rattle.worker.specs.Lent.{storesOn, loggedOn, heldAfter}
 use Rattle.tables.specs.Event.{Called}
-use Rattle.worker.proofs.Refused.{no-such, store-holds-none, store-log-full}
+use Rattle.worker.proofs.Refused.{no-such, store-holds-none}
 use Rattle.worker.proofs.Events.{register-low, base-stands}
-use Rattle.worker.proofs.Store.{full-stands, stored}
+use Rattle.worker.proofs.Store.{room-stands, stored}
 use borrow.Author.Needs.{needs}
 use Rattle.worker.proofs.stores.Statement.{statement}
 use Rattle.worker.proofs.stores.Tie as tie
@@ -44,12 +43,6 @@ link : (c : tie.After-link-number) → let at = start (c .before .before .before
 link c =
     let at = start (c .before .before .before .before) .args in
     ap (λ (a : ℕ). linkNumber (at .s) (recordNumber a) (at .f)) (base (c .before .before .before)) ∙ sym (c .link-number .ensures .0)
-
--- there is room for the entry
-free : (c : tie.Else3) → let at = start (c .before .before .before .before .before .before .before .before) .args in
-    let l = c .before .before .before .before .link-number .result in
-    (not (isOn (getD (at .changed .now) (l .0) 0)) && leb (links (at .s)) (getD (at .lengths .now) (at .w) 0)) ≡ false
-free c = sym (c .before .log-full .ensures) ∙ c .if3 .left
 
 has-worker-requires : tie.Need-has-worker-requires
 has-worker-requires c κs = search needs
@@ -105,35 +98,6 @@ link-number-requires c κs =
       inside .2,
     )
 
-log-full-requires : tie.Need-log-full-requires
-log-full-requires c κs =
-    let tested = c .before .before .before .before .before .before in
-    let at = start tested .args in
-    let known = start tested .pre .2 in
-    let inside = numbers-there (at .s) (at .w) (at .q) (at .r) (at .f) (there tested) in (
-      known .sizes,
-      omega (arith, c .before .before .link-number .ensures .1, known .exact .changed),
-      omega (arith, inside .0 .worker, known .exact .lengths),
-    )
-
-same-length : tie.Need-same-length
-same-length c = search needs
-
-same-length-2 : tie.Need-same-length-2
-same-length-2 c = search needs
-
-returns-3 : tie.Need-returns-3
-returns-3 c t k known =
-    let linked = c .before .before .before .before in
-    let tested = linked .before .before .before .before in
-    let at = start tested .args in
-    store-log-full known (at .w) (at .q) (at .f) (at .r) (there tested)
-    (λ e. linked .before .if2 .left (sym (base (linked .before .before .before)) ∙ ap (λ (a : RecordNumber). a .0) (sym (base-stands known (at .w) (at .q) (at .r) (at .f) (there tested))) ∙ e))
-    (full-stands known (at .w) (at .q) (at .f) (at .r) (there tested)
-    ∙ ap (λ (l : LinkNumber). not (isOn (getD (at .changed .now) (l .0) 0)) && leb (links (at .s)) (getD (at .lengths .now) (at .w) 0)) (link linked)
-    ∙ sym (c .before .log-full .ensures)
-    ∙ c .if3 .taken)
-
 wide-requires : tie.Need-wide-requires
 wide-requires c κs = search needs
 
@@ -142,37 +106,36 @@ mul-old c = search needs
 
 slice-read-old : tie.Need-slice-read-old
 slice-read-old c =
-    let linked = c .before .before .before .before .before .before in
+    let linked = c .before .before in
     let known = start (linked .before .before .before .before) .pre .2 in
     omega (arith, linked .link-number .ensures .1, known .exact .values, c .before .wide .ensures)
 
 register-place-requires-2 : tie.Need-register-place-requires-2
 register-place-requires-2 c κs =
-    let tested = c .before .before .before .before .before .before .before .before .before .before in
+    let tested = c .before .before .before .before .before .before in
     let at = start tested .args in
     let inside = numbers-there (at .s) (at .w) (at .q) (at .r) (at .f) (there tested) in
     (start tested .pre .2 .sizes, inside .0 .worker, inside .1)
 
 mul-new : tie.Need-mul-new
 mul-new c =
-    let tested = c .before .before .before .before .before .before .before .before .before .before .before in
+    let tested = c .before .before .before .before .before .before .before in
     omega (arith, c .register-place2 .ensures .1, start tested .pre .2 .exact .registers, start tested .good)
 
 shared-slice-read-new : tie.Need-shared-slice-read-new
 shared-slice-read-new c =
-    let tested = c .before .before .before .before .before .before .before .before .before .before .before .before in
+    let tested = c .before .before .before .before .before .before .before .before in
     omega (arith, c .before .register-place2 .ensures .1, start tested .pre .2 .exact .registers)
 
 is-on-requires : tie.Need-is-on-requires
 is-on-requires c κs =
-    let linked = c .before .before .before .before .before .before .before .before .before in
+    let linked = c .before .before .before .before .before in
     let known = start (linked .before .before .before .before) .pre .2 in
     omega (arith, linked .link-number .ensures .1, known .exact .changed, c .before .before .before .before .wide .ensures)
 
 logged-requires : tie.Need-logged-requires
 logged-requires c κs =
-    let unfull = c .before .before .before .before .before .before .before .before .before in
-    let linked = unfull .before .before .before .before in
+    let linked = c .before .before .before .before .before .before .before .before .before in
     let tested = linked .before .before .before .before in
     let at = start tested .args in
     let known = start tested .pre .2 in
@@ -186,10 +149,7 @@ logged-requires c κs =
       logs = known .exact .logs;
       lengths = omega (arith, inside .0 .worker, known .exact .lengths);
       mark = mark;
-      free =
-          λ off.
-          leb-false (links (at .s)) (getD (at .lengths .now) (at .w) 0)
-          (ap (λ (b : Bool). not b && leb (links (at .s)) (getD (at .lengths .now) (at .w) 0)) (sym off ∙ mark) ∙ free unfull);
+      free = λ off. room-stands known (at .w) (linked .link-number .result) (inside .0 .worker) (linked .link-number .ensures .1) (sym mark ∙ off);
     }
 
 mul-values : tie.Need-mul-values
@@ -197,20 +157,26 @@ mul-values c = search needs
 
 slice-write-values : tie.Need-slice-write-values
 slice-write-values c =
-    let linked = c .before .before .before .before .before .before .before .before .before .before .before .before .before .before .before .before .before .before .before .before in
+    let linked = c .before .before .before .before .before .before .before .before .before .before .before .before .before .before .before .before in
     let known = start (linked .before .before .before .before) .pre .2 in
     omega (arith, linked .link-number .ensures .1, known .exact .values, c .before .before .before .before .before .before .before .before .before .before .before .before .before .before .before .wide .ensures)
 
 snooped-requires : tie.Need-snooped-requires
 snooped-requires c κs =
     let read = c .before .before .before .before .before .before .before .before .before .before .before .before .before .before in
-    let tested = read .before .before .before .before .before .before .before .before .before .before .before in
+    let tested = read .before .before .before .before .before .before .before in
     let at = start tested .args in
     let known = start tested .pre .2 in
     let inside = numbers-there (at .s) (at .w) (at .q) (at .r) (at .f) (there tested) in (
       omega (arith, inside .0 .worker, known .exact .snoops),
       omega (arith, register-low known (at .w) (at .r) (inside .0 .worker) (inside .1), known .exact .held, ap (λ (i : ℕ). getD (at .registers .now) i 0) (read .register-place2 .ensures .0)),
     )
+
+same-length : tie.Need-same-length
+same-length c = search needs
+
+same-length-2 : tie.Need-same-length-2
+same-length-2 c = search needs
 
 same-length-3 : tie.Need-same-length-3
 same-length-3 c = search needs
@@ -221,15 +187,9 @@ same-length-4 c = search needs
 same-length-5 : tie.Need-same-length-5
 same-length-5 c = search needs
 
-same-length-6 : tie.Need-same-length-6
-same-length-6 c = search needs
-
-same-length-7 : tie.Need-same-length-7
-same-length-7 c = search needs
-
-returns-4 : tie.Need-returns-4
-returns-4 c t k known =
-    let linked = c .before .before .before .before .before .before .before .before .before .before .before .before .before .before .before .before .before .before .before .before .before .before .before .before in
+returns-3 : tie.Need-returns-3
+returns-3 c t k known =
+    let linked = c .before .before .before .before .before .before .before .before .before .before .before .before .before .before .before .before .before .before .before .before in
     let tested = linked .before .before .before .before in
     let at = start tested .args in
     let here : Tables = storesOn (at .held) (at .values) (at .changed) (at .registers) (at .snoops) (at .logs) (at .lengths) t in
@@ -248,7 +208,6 @@ returns-4 c t k known =
     }) in
     stored known (at .w) (at .q) (at .f) (at .r) (there tested)
     (λ e. linked .before .if2 .left (sym (base (linked .before .before .before)) ∙ e))
-    (ap (λ (l : LinkNumber). not (isOn (getD (at .changed .now) (l .0) 0)) && leb (links (at .s)) (getD (at .lengths .now) (at .w) 0)) (link linked) ∙ free (c .before .before .before .before .before .before .before .before .before .before .before .before .before .before .before .before .before .before .before .before))
     ∙ ap (λ (l : LinkNumber). from l (l .0) (at .w * at .s .r + at .r)) (link linked)
     ∙ (λ j. from l (sym (wide .ensures) j) (sym (place .ensures .0) j))
     ∙ (λ j.
@@ -273,10 +232,6 @@ stores-spec =
     shared-slice-read-base
     returns-2
     link-number-requires
-    log-full-requires
-    same-length
-    same-length-2
-    returns-3
     wide-requires
     mul-old
     slice-read-old
@@ -288,9 +243,9 @@ stores-spec =
     mul-values
     slice-write-values
     snooped-requires
+    same-length
+    same-length-2
     same-length-3
     same-length-4
     same-length-5
-    same-length-6
-    same-length-7
-    returns-4)
+    returns-3)
