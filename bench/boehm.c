@@ -1,7 +1,7 @@
-/* The same work for a collector that stops the world: N records with K links each, W workers with R registers as the roots beside what the collector
-   finds itself, on Debian's Boehm collector (libgc-dev). It collects as often as it prints a line:
+/* The same work for a collector that stops the world: N records with K links each, W workers with R registers and a board of B entries as the roots beside
+   what the collector finds itself, on Debian's Boehm collector (libgc-dev). It collects as often as it prints a line:
 
-       boehm N        K 8, W 8, R 16
+       boehm N        K 8, W 8, R 16, B 16
 
    callgrind counts each GC_gcollect by itself; the longest is what every worker has to wait for. */
 #include <gc.h>
@@ -9,13 +9,13 @@
 #include <stdio.h>
 #include <stdlib.h>
 
-enum { K = 8, W = 8, R = 16, LARGEST = 1024 };
+enum { K = 8, W = 8, R = 16, B = 16, LARGEST = 1024 };
 
 struct record {
     struct record *links[K];
 };
 
-static struct record *registers[W * R];
+static struct record *registers[W * R], *board[B];
 
 /* The generator of random.rs. */
 static uint64_t state = 1;
@@ -51,6 +51,9 @@ static void fill(size_t n) {
     }
     for (size_t r = 0; r < W * R; r++) {
         registers[r] = all[below(n)];
+    }
+    for (size_t e = 0; e < B; e++) {
+        board[e] = all[below(n)];
     }
     registers[0] = all[0];
     GC_FREE(all);

@@ -70,7 +70,7 @@ static inline const char *yuyarisun_words(uint16_t number)
     case YUYARISUN_EXTRA_BYTE: return "a byte after the end field";
     case YUYARISUN_WRONG_COUNT: return "end field's count is not the last step number";
     case YUYARISUN_NO_SUCH_REGISTER: return "no such register";
-    case YUYARISUN_NO_SUCH_LINK: return "no such link";
+    case YUYARISUN_NO_SUCH_LINK: return "no such link or board entry";
     case YUYARISUN_SIZES_DIFFER: return "two parts differ in sizes";
     case YUYARISUN_OUTPUT_SHORT: return "the output is too short";
     default: return "no number that a call answers";
@@ -79,41 +79,43 @@ static inline const char *yuyarisun_words(uint16_t number)
 
 /* ---- Sizes, and the length of each table ---- */
 
-/* n records 1..1024, k links in each 1..8, w workers 1..8, r registers per worker 1..16. There are S = n x k links. */
+/* n records 1..1024, k links in each 1..8, w workers 1..8, r registers per worker 1..16, b board entries 0..16, through which workers pass records. There are
+ * S = n x k + b links: those of the records, and the board entries. */
 typedef struct yuyarisun_sizes {
-    uint16_t n, k, w, r;
+    uint16_t n, k, w, r, b;
 } yuyarisun_sizes;
 
 #define YUYARISUN_MOST_RECORDS 1024
 #define YUYARISUN_MOST_LINKS 8
 #define YUYARISUN_MOST_WORKERS 8
 #define YUYARISUN_MOST_REGISTERS 16
+#define YUYARISUN_MOST_BOARD_ENTRIES 16
 
 /* S, the number of all links. */
-#define YUYARISUN_ALL_LINKS(n, k) ((size_t)(n) * (size_t)(k))
+#define YUYARISUN_ALL_LINKS(n, k, b) ((size_t)(n) * (size_t)(k) + (size_t)(b))
 
 /* How many 16-bit numbers each table has, exactly. Of constant sizes these are constant, so that an array can be declared with them. */
-#define YUYARISUN_USED_LENGTH(n, k, w, r) ((size_t)(n))
-#define YUYARISUN_COUNTS_LENGTH(n, k, w, r) ((size_t)(n))
-#define YUYARISUN_HELD_LENGTH(n, k, w, r) ((size_t)(n))
-#define YUYARISUN_CANDIDATES_LENGTH(n, k, w, r) ((size_t)(n))
-#define YUYARISUN_MAKERS_LENGTH(n, k, w, r) ((size_t)(n))
-#define YUYARISUN_VALUES_LENGTH(n, k, w, r) YUYARISUN_ALL_LINKS(n, k)
-#define YUYARISUN_CHANGED_LENGTH(n, k, w, r) YUYARISUN_ALL_LINKS(n, k)
-#define YUYARISUN_REGISTERS_LENGTH(n, k, w, r) ((size_t)(w) * (size_t)(r) + 1)
-#define YUYARISUN_SNOOPS_LENGTH(n, k, w, r) ((size_t)(w))
-#define YUYARISUN_LOGS_LENGTH(n, k, w, r) ((size_t)(w) * 2 * YUYARISUN_ALL_LINKS(n, k))
-#define YUYARISUN_HISTORY_LENGTH(n, k, w, r) (2 * YUYARISUN_ALL_LINKS(n, k))
-#define YUYARISUN_LENGTHS_LENGTH(n, k, w, r) ((size_t)(w) + 1)
+#define YUYARISUN_USED_LENGTH(n, k, w, r, b) ((size_t)(n))
+#define YUYARISUN_COUNTS_LENGTH(n, k, w, r, b) ((size_t)(n))
+#define YUYARISUN_HELD_LENGTH(n, k, w, r, b) ((size_t)(n))
+#define YUYARISUN_CANDIDATES_LENGTH(n, k, w, r, b) ((size_t)(n))
+#define YUYARISUN_MAKERS_LENGTH(n, k, w, r, b) ((size_t)(n))
+#define YUYARISUN_VALUES_LENGTH(n, k, w, r, b) YUYARISUN_ALL_LINKS(n, k, b)
+#define YUYARISUN_CHANGED_LENGTH(n, k, w, r, b) YUYARISUN_ALL_LINKS(n, k, b)
+#define YUYARISUN_REGISTERS_LENGTH(n, k, w, r, b) ((size_t)(w) * (size_t)(r) + 1)
+#define YUYARISUN_SNOOPS_LENGTH(n, k, w, r, b) ((size_t)(w))
+#define YUYARISUN_LOGS_LENGTH(n, k, w, r, b) ((size_t)(w) * 2 * YUYARISUN_ALL_LINKS(n, k, b))
+#define YUYARISUN_HISTORY_LENGTH(n, k, w, r, b) (2 * YUYARISUN_ALL_LINKS(n, k, b))
+#define YUYARISUN_LENGTHS_LENGTH(n, k, w, r, b) ((size_t)(w) + 1)
 
-/* All twelve together: 169,106 numbers at the largest sizes. */
-#define YUYARISUN_TOTAL_LENGTH(n, k, w, r)                                                                                                                     \
-    (5 * (size_t)(n) + 4 * YUYARISUN_ALL_LINKS(n, k) + (size_t)(w) * (2 * YUYARISUN_ALL_LINKS(n, k) + (size_t)(r) + 2) + 2)
+/* All twelve together: 169,426 numbers at the largest sizes. */
+#define YUYARISUN_TOTAL_LENGTH(n, k, w, r, b)                                                                                                                  \
+    (5 * (size_t)(n) + 4 * YUYARISUN_ALL_LINKS(n, k, b) + (size_t)(w) * (2 * YUYARISUN_ALL_LINKS(n, k, b) + (size_t)(r) + 2) + 2)
 
 static inline bool yuyarisun_sizes_in_range(yuyarisun_sizes s)
 {
     return s.n >= 1 && s.n <= YUYARISUN_MOST_RECORDS && s.k >= 1 && s.k <= YUYARISUN_MOST_LINKS && s.w >= 1 && s.w <= YUYARISUN_MOST_WORKERS && s.r >= 1 &&
-           s.r <= YUYARISUN_MOST_REGISTERS;
+           s.r <= YUYARISUN_MOST_REGISTERS && s.b <= YUYARISUN_MOST_BOARD_ENTRIES;
 }
 
 /* ---- A pool as a caller keeps it ---- */
@@ -138,7 +140,7 @@ typedef struct yuyarisun_pool {
     yuyarisun_table held;       /* of record a at a - 1: its held mark, 0 or 1 */
     yuyarisun_table candidates; /* of record a at a - 1: its candidate mark, 0 or 1 */
     yuyarisun_table makers;     /* of record a at a - 1: the worker that made it + 1, or 0 */
-    yuyarisun_table values;     /* of link l at l: the record that it leads to, or 0; link f of record a is (a - 1) x k + f */
+    yuyarisun_table values;     /* of link l at l: the record that it leads to, or 0; link f of record a is (a - 1) x k + f, board entry e is n x k + e */
     yuyarisun_table changed;    /* of link l at l: its changed mark, 0 or 1 */
     yuyarisun_table registers;  /* register r of worker w at w x (registers per worker) + r: a record, or 0; behind all of them the last made number, or 0 */
     yuyarisun_table snoops;     /* of worker w at w: its snoop flag, 0 or 1 */
@@ -165,26 +167,26 @@ static inline yuyarisun_table yuyarisun_part(uint16_t **at, size_t length)
 }
 
 /* Lays the twelve tables out in a block of the caller's, one after another, and puts the collector's record to 0. The block has room for at least
- * YUYARISUN_TOTAL_LENGTH(n, k, w, r) numbers, stays the caller's and has to outlive the pool. What stands in it stays: yuyarisun_pool_fresh comes next,
+ * YUYARISUN_TOTAL_LENGTH(n, k, w, r, b) numbers, stays the caller's and has to outlive the pool. What stands in it stays: yuyarisun_pool_fresh comes next,
  * or numbers that were put away. Answers 1 and leaves the pool as it was if a size is out of its range or the block is too short, else 0. */
 static inline uint16_t yuyarisun_lay(yuyarisun_pool *pool, yuyarisun_sizes sizes, uint16_t *block, size_t block_length)
 {
-    const size_t n = sizes.n, k = sizes.k, w = sizes.w, r = sizes.r;
-    if (!yuyarisun_sizes_in_range(sizes) || block_length < YUYARISUN_TOTAL_LENGTH(n, k, w, r))
+    const size_t n = sizes.n, k = sizes.k, w = sizes.w, r = sizes.r, b = sizes.b;
+    if (!yuyarisun_sizes_in_range(sizes) || block_length < YUYARISUN_TOTAL_LENGTH(n, k, w, r, b))
         return YUYARISUN_WRONG_SIZE;
     pool->sizes = sizes;
-    pool->used = yuyarisun_part(&block, YUYARISUN_USED_LENGTH(n, k, w, r));
-    pool->counts = yuyarisun_part(&block, YUYARISUN_COUNTS_LENGTH(n, k, w, r));
-    pool->held = yuyarisun_part(&block, YUYARISUN_HELD_LENGTH(n, k, w, r));
-    pool->candidates = yuyarisun_part(&block, YUYARISUN_CANDIDATES_LENGTH(n, k, w, r));
-    pool->makers = yuyarisun_part(&block, YUYARISUN_MAKERS_LENGTH(n, k, w, r));
-    pool->values = yuyarisun_part(&block, YUYARISUN_VALUES_LENGTH(n, k, w, r));
-    pool->changed = yuyarisun_part(&block, YUYARISUN_CHANGED_LENGTH(n, k, w, r));
-    pool->registers = yuyarisun_part(&block, YUYARISUN_REGISTERS_LENGTH(n, k, w, r));
-    pool->snoops = yuyarisun_part(&block, YUYARISUN_SNOOPS_LENGTH(n, k, w, r));
-    pool->logs = yuyarisun_part(&block, YUYARISUN_LOGS_LENGTH(n, k, w, r));
-    pool->history = yuyarisun_part(&block, YUYARISUN_HISTORY_LENGTH(n, k, w, r));
-    pool->lengths = yuyarisun_part(&block, YUYARISUN_LENGTHS_LENGTH(n, k, w, r));
+    pool->used = yuyarisun_part(&block, YUYARISUN_USED_LENGTH(n, k, w, r, b));
+    pool->counts = yuyarisun_part(&block, YUYARISUN_COUNTS_LENGTH(n, k, w, r, b));
+    pool->held = yuyarisun_part(&block, YUYARISUN_HELD_LENGTH(n, k, w, r, b));
+    pool->candidates = yuyarisun_part(&block, YUYARISUN_CANDIDATES_LENGTH(n, k, w, r, b));
+    pool->makers = yuyarisun_part(&block, YUYARISUN_MAKERS_LENGTH(n, k, w, r, b));
+    pool->values = yuyarisun_part(&block, YUYARISUN_VALUES_LENGTH(n, k, w, r, b));
+    pool->changed = yuyarisun_part(&block, YUYARISUN_CHANGED_LENGTH(n, k, w, r, b));
+    pool->registers = yuyarisun_part(&block, YUYARISUN_REGISTERS_LENGTH(n, k, w, r, b));
+    pool->snoops = yuyarisun_part(&block, YUYARISUN_SNOOPS_LENGTH(n, k, w, r, b));
+    pool->logs = yuyarisun_part(&block, YUYARISUN_LOGS_LENGTH(n, k, w, r, b));
+    pool->history = yuyarisun_part(&block, YUYARISUN_HISTORY_LENGTH(n, k, w, r, b));
+    pool->lengths = yuyarisun_part(&block, YUYARISUN_LENGTHS_LENGTH(n, k, w, r, b));
     pool->collector.phase = pool->collector.position = pool->collector.closed = 0;
     return YUYARISUN_DONE;
 }
@@ -199,11 +201,11 @@ static inline uint16_t yuyarisun_lay(yuyarisun_pool *pool, yuyarisun_sizes sizes
         size_t history_length, uint16_t *lengths, size_t lengths_length, uint16_t *phase, uint16_t *position, uint16_t *closed
 
 /* That, and the sizes of the pool. */
-#define YUYARISUN_LENT uint16_t n, uint16_t k, uint16_t w, uint16_t r, YUYARISUN_LENT_TABLES
+#define YUYARISUN_LENT uint16_t n, uint16_t k, uint16_t w, uint16_t r, uint16_t b, YUYARISUN_LENT_TABLES
 
 /* The same, to read alone. */
 #define YUYARISUN_LENT_TO_READ                                                                                                                                 \
-    uint16_t n, uint16_t k, uint16_t w, uint16_t r, const uint16_t *used, size_t used_length, const uint16_t *counts, size_t counts_length,                   \
+    uint16_t n, uint16_t k, uint16_t w, uint16_t r, uint16_t b, const uint16_t *used, size_t used_length, const uint16_t *counts, size_t counts_length,        \
         const uint16_t *held, size_t held_length, const uint16_t *candidates, size_t candidates_length, const uint16_t *makers, size_t makers_length,          \
         const uint16_t *values, size_t values_length, const uint16_t *changed, size_t changed_length, const uint16_t *registers, size_t registers_length,      \
         const uint16_t *snoops, size_t snoops_length, const uint16_t *logs, size_t logs_length, const uint16_t *history, size_t history_length,                \
@@ -225,6 +227,12 @@ uint16_t yuyarisun_load(YUYARISUN_LENT, uint16_t *value, uint8_t worker, uint8_t
 /* store: a link of the record in the register `through` takes what the register `from` holds. The value is the one overwritten. Answers 0, 1, 2, 3, 13,
  * 14 or 4. */
 uint16_t yuyarisun_store(YUYARISUN_LENT, uint16_t *value, uint8_t worker, uint8_t through, uint8_t link, uint8_t from);
+
+/* look: the register `into` takes what the board entry holds, which is the value. Answers 0, 1, 2, 3, 13 or 14. */
+uint16_t yuyarisun_look(YUYARISUN_LENT, uint16_t *value, uint8_t worker, uint8_t into, uint8_t entry);
+
+/* post: the board entry takes what the register `from` holds. The value is the one overwritten. Answers 0, 1, 2, 3, 13 or 14. */
+uint16_t yuyarisun_post(YUYARISUN_LENT, uint16_t *value, uint8_t worker, uint8_t entry, uint8_t from);
 
 /* collect: one collector step. The value is the record freed, otherwise 0. Answers 0, 1 or 2. */
 uint16_t yuyarisun_collect(YUYARISUN_LENT, uint16_t *value);
@@ -282,11 +290,11 @@ uint16_t yuyarisun_join(const uint8_t *parts, size_t parts_length, const uint64_
         (pool)->changed.numbers, (pool)->changed.length, (pool)->registers.numbers, (pool)->registers.length, (pool)->snoops.numbers, (pool)->snoops.length,   \
         (pool)->logs.numbers, (pool)->logs.length, (pool)->history.numbers, (pool)->history.length, (pool)->lengths.numbers, (pool)->lengths.length
 
-#define YUYARISUN_SIZES_OF(pool) (pool)->sizes.n, (pool)->sizes.k, (pool)->sizes.w, (pool)->sizes.r
+#define YUYARISUN_SIZES_OF(pool) (pool)->sizes.n, (pool)->sizes.k, (pool)->sizes.w, (pool)->sizes.r, (pool)->sizes.b
 #define YUYARISUN_COLLECTOR_OF(pool) &(pool)->collector.phase, &(pool)->collector.position, &(pool)->collector.closed
 #define YUYARISUN_LEND(pool) YUYARISUN_SIZES_OF(pool), YUYARISUN_TABLES_OF(pool), YUYARISUN_COLLECTOR_OF(pool)
 
-/* In these w is a worker, r and q are registers of it, and f is a link of the record in q, each counted from 0. */
+/* In these w is a worker, r and q are registers of it, f is a link of the record in q, and e is a board entry, each counted from 0. */
 
 static inline yuyarisun_answer yuyarisun_pool_make(yuyarisun_pool *pool, uint8_t w, uint8_t r)
 {
@@ -323,6 +331,22 @@ static inline yuyarisun_answer yuyarisun_pool_store(yuyarisun_pool *pool, uint8_
 {
     yuyarisun_answer answer;
     answer.number = yuyarisun_store(YUYARISUN_LEND(pool), &answer.value, w, q, f, r);
+    return answer;
+}
+
+/* Register r takes what board entry e holds. */
+static inline yuyarisun_answer yuyarisun_pool_look(yuyarisun_pool *pool, uint8_t w, uint8_t r, uint8_t e)
+{
+    yuyarisun_answer answer;
+    answer.number = yuyarisun_look(YUYARISUN_LEND(pool), &answer.value, w, r, e);
+    return answer;
+}
+
+/* Board entry e takes what r holds. */
+static inline yuyarisun_answer yuyarisun_pool_post(yuyarisun_pool *pool, uint8_t w, uint8_t e, uint8_t r)
+{
+    yuyarisun_answer answer;
+    answer.number = yuyarisun_post(YUYARISUN_LEND(pool), &answer.value, w, e, r);
     return answer;
 }
 
@@ -380,8 +404,24 @@ static inline yuyarisun_events_answer yuyarisun_pool_events(yuyarisun_pool *pool
     return answer;
 }
 
-/* yuyarisun_trace on a pool: pool->sizes is not looked at and stays; the lengths of the tables have to be those of the trace's sizes. `bytes` and `answers` may
- * be null where their length is 0. */
+/* The sizes that a trace begins with, in range or not, for yuyarisun_lay; all 0, which it refuses, if no whole sizes field stands there. A field of length 8 says
+ * that there is no board, one of length 10 has b at its end. */
+static inline yuyarisun_sizes yuyarisun_sizes_of_trace(const uint8_t *bytes, size_t bytes_length)
+{
+    yuyarisun_sizes sizes = {0, 0, 0, 0, 0};
+    if (bytes_length < 3 || bytes[0] != 0x01 || bytes[1] != 0 || (bytes[2] != 8 && bytes[2] != 10) || bytes_length < (size_t)3 + bytes[2])
+        return sizes;
+    sizes.n = (uint16_t)(bytes[3] << 8 | bytes[4]);
+    sizes.k = (uint16_t)(bytes[5] << 8 | bytes[6]);
+    sizes.w = (uint16_t)(bytes[7] << 8 | bytes[8]);
+    sizes.r = (uint16_t)(bytes[9] << 8 | bytes[10]);
+    if (bytes[2] == 10)
+        sizes.b = (uint16_t)(bytes[11] << 8 | bytes[12]);
+    return sizes;
+}
+
+/* yuyarisun_trace on a pool: the lengths of the tables have to be those of the trace's sizes. pool->sizes is not looked at; an accepted sizes field makes it the
+ * trace's, for lengths leave k and b open. `bytes` and `answers` may be null where their length is 0. */
 static inline yuyarisun_trace_answer yuyarisun_pool_trace(yuyarisun_pool *pool, const uint8_t *bytes, size_t bytes_length, uint16_t *answers,
                                                           size_t answers_length)
 {
@@ -390,20 +430,9 @@ static inline yuyarisun_trace_answer yuyarisun_pool_trace(yuyarisun_pool *pool, 
     uint16_t no_answer = 0;
     answer.number = yuyarisun_trace(YUYARISUN_TABLES_OF(pool), YUYARISUN_COLLECTOR_OF(pool), bytes_length == 0 ? &no_byte : bytes, bytes_length,
                                     answers_length == 0 ? &no_answer : answers, answers_length, &answer.events, &answer.free_records, &answer.place);
+    if (answer.number == YUYARISUN_DONE || answer.place > 0) /* whatever is refused behind the sizes field has another place */
+        pool->sizes = yuyarisun_sizes_of_trace(bytes, bytes_length);
     return answer;
-}
-
-/* The sizes that a trace begins with, in range or not, for yuyarisun_lay; all 0, which it refuses, if no whole sizes field stands there. */
-static inline yuyarisun_sizes yuyarisun_sizes_of_trace(const uint8_t *bytes, size_t bytes_length)
-{
-    yuyarisun_sizes sizes = {0, 0, 0, 0};
-    if (bytes_length < 11 || bytes[0] != 0x01 || bytes[1] != 0 || bytes[2] != 8)
-        return sizes;
-    sizes.n = (uint16_t)(bytes[3] << 8 | bytes[4]);
-    sizes.k = (uint16_t)(bytes[5] << 8 | bytes[6]);
-    sizes.w = (uint16_t)(bytes[7] << 8 | bytes[8]);
-    sizes.r = (uint16_t)(bytes[9] << 8 | bytes[10]);
-    return sizes;
 }
 
 /* The longest event field has so many bytes. */
@@ -445,6 +474,16 @@ static inline uint8_t *yuyarisun_put_load(uint8_t *at, uint32_t step, uint8_t w,
 static inline uint8_t *yuyarisun_put_store(uint8_t *at, uint32_t step, uint8_t w, uint8_t q, uint8_t f, uint8_t r)
 {
     return yuyarisun_put_event(at, step, 0x14, 8, w, q, f, r);
+}
+
+static inline uint8_t *yuyarisun_put_look(uint8_t *at, uint32_t step, uint8_t w, uint8_t r, uint8_t e)
+{
+    return yuyarisun_put_event(at, step, 0x15, 7, w, r, e, 0);
+}
+
+static inline uint8_t *yuyarisun_put_post(uint8_t *at, uint32_t step, uint8_t w, uint8_t e, uint8_t r)
+{
+    return yuyarisun_put_event(at, step, 0x16, 7, w, e, r, 0);
 }
 
 static inline uint8_t *yuyarisun_put_collect(uint8_t *at, uint32_t step)

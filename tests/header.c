@@ -14,9 +14,9 @@
         }                                                                                                                                                      \
     } while (0)
 
-enum { N = 4, K = 2, W = 2, R = 2 };
-static uint16_t block[YUYARISUN_TOTAL_LENGTH(N, K, W, R)];
-static uint16_t largest[YUYARISUN_TOTAL_LENGTH(1024, 8, 8, 16)];
+enum { N = 4, K = 2, W = 2, R = 2, B = 2 };
+static uint16_t block[YUYARISUN_TOTAL_LENGTH(N, K, W, R, B)];
+static uint16_t largest[YUYARISUN_TOTAL_LENGTH(1024, 8, 8, 16, 16)];
 
 /* The words of each number, and of none. */
 static int words(void)
@@ -28,7 +28,7 @@ static int words(void)
     HOLD(strcmp(yuyarisun_words(YUYARISUN_WRONG_COUNT), "end field's count is not the last step number") == 0);
     HOLD(strcmp(yuyarisun_words(YUYARISUN_NO_SUCH_WORKER), "no such worker") == 0);
     HOLD(strcmp(yuyarisun_words(YUYARISUN_NO_SUCH_REGISTER), "no such register") == 0);
-    HOLD(strcmp(yuyarisun_words(YUYARISUN_NO_SUCH_LINK), "no such link") == 0);
+    HOLD(strcmp(yuyarisun_words(YUYARISUN_NO_SUCH_LINK), "no such link or board entry") == 0);
     HOLD(strcmp(yuyarisun_words(YUYARISUN_SIZES_DIFFER), "two parts differ in sizes") == 0);
     HOLD(strcmp(yuyarisun_words(YUYARISUN_OUTPUT_SHORT), "the output is too short") == 0);
     HOLD(strcmp(yuyarisun_words(6), yuyarisun_words(65535)) == 0 && strcmp(yuyarisun_words(17), yuyarisun_words(65535)) == 0);
@@ -39,25 +39,25 @@ static int words(void)
 static int laid_out(void)
 {
     yuyarisun_pool pool;
-    yuyarisun_sizes sizes = {N, K, W, R};
+    yuyarisun_sizes sizes = {N, K, W, R, B};
     size_t total = sizeof block / sizeof *block;
-    HOLD(sizeof largest / sizeof *largest == 169106);
+    HOLD(sizeof largest / sizeof *largest == 169426);
     HOLD(yuyarisun_lay(&pool, sizes, block, total - 1) == YUYARISUN_WRONG_SIZE);
     HOLD(yuyarisun_lay(&pool, sizes, block, total) == YUYARISUN_DONE);
     HOLD(pool.used.numbers == block && pool.lengths.numbers + pool.lengths.length == block + total);
     pool.logs.length--;
     HOLD(yuyarisun_pool_fresh(&pool) == YUYARISUN_WRONG_SIZE);
     HOLD(yuyarisun_pool_collect(&pool).number == YUYARISUN_WRONG_SIZE);
-    for (int size = 0; size < 4; size++) {
-        const uint16_t past[4] = {1025, 9, 9, 17};
-        yuyarisun_sizes wrong = {1024, 8, 8, 16};
-        uint16_t *each[4] = {&wrong.n, &wrong.k, &wrong.w, &wrong.r};
+    for (int size = 0; size < 5; size++) {
+        const uint16_t past[5] = {1025, 9, 9, 17, 17};
+        yuyarisun_sizes wrong = {1024, 8, 8, 16, 16};
+        uint16_t *each[5] = {&wrong.n, &wrong.k, &wrong.w, &wrong.r, &wrong.b};
         HOLD(yuyarisun_lay(&pool, wrong, largest, sizeof largest / sizeof *largest) == YUYARISUN_DONE);
         HOLD(yuyarisun_pool_fresh(&pool) == YUYARISUN_DONE && yuyarisun_pool_sound(&pool) && yuyarisun_pool_free_records(&pool) == 1024);
         *each[size] = past[size];
         HOLD(yuyarisun_lay(&pool, wrong, largest, SIZE_MAX) == YUYARISUN_WRONG_SIZE);
         *each[size] = 0;
-        HOLD(yuyarisun_lay(&pool, wrong, largest, SIZE_MAX) == YUYARISUN_WRONG_SIZE);
+        HOLD(yuyarisun_lay(&pool, wrong, largest, SIZE_MAX) == (size < 4 ? YUYARISUN_WRONG_SIZE : YUYARISUN_DONE));
     }
     return 0;
 }
@@ -71,8 +71,8 @@ static int done(yuyarisun_answer answer, uint16_t value)
 static int named(void)
 {
     yuyarisun_pool pool;
-    yuyarisun_sizes sizes = {N, K, W, R};
-    const size_t log = 1 * 2 * YUYARISUN_ALL_LINKS(N, K);
+    yuyarisun_sizes sizes = {N, K, W, R, B};
+    const size_t log = 1 * 2 * YUYARISUN_ALL_LINKS(N, K, B);
     HOLD(yuyarisun_lay(&pool, sizes, block, sizeof block / sizeof *block) == YUYARISUN_DONE);
     memset(block, 0xff, sizeof block);
     HOLD(!yuyarisun_pool_sound(&pool) && yuyarisun_pool_collect(&pool).number == YUYARISUN_NOT_SOUND);
@@ -110,6 +110,26 @@ static int named(void)
     return 0;
 }
 
+/* Worker 0 posts a record, worker 1 looks at it and posts none over it: board entry 1 is link 9. Worker 0 drops it, and worker 1 keeps it. */
+static int board(void)
+{
+    yuyarisun_pool pool;
+    yuyarisun_sizes sizes = {N, K, W, R, B};
+    HOLD(yuyarisun_lay(&pool, sizes, block, sizeof block / sizeof *block) == YUYARISUN_DONE && yuyarisun_pool_fresh(&pool) == YUYARISUN_DONE);
+    HOLD(pool.values.length == 10 && pool.changed.length == 10 && pool.history.length == 20 && pool.logs.length == 40);
+    HOLD(done(yuyarisun_pool_make(&pool, 0, 0), 1) && done(yuyarisun_pool_post(&pool, 0, 1, 0), 0));
+    HOLD(pool.values.numbers[9] == 1 && pool.changed.numbers[9] == 1 && pool.logs.numbers[0] == 9 && pool.logs.numbers[1] == 0);
+    HOLD(done(yuyarisun_pool_look(&pool, 1, 0, 0), 0) && done(yuyarisun_pool_look(&pool, 1, 0, 1), 1) && pool.registers.numbers[1 * R + 0] == 1);
+    HOLD(done(yuyarisun_pool_post(&pool, 1, 1, 1), 1) && pool.values.numbers[9] == 0 && pool.lengths.numbers[1] == 0);
+    HOLD(done(yuyarisun_pool_drop(&pool, 0, 0), 0));
+    while (pool.collector.closed == 0)
+        HOLD(done(yuyarisun_pool_collect(&pool), 0));
+    HOLD(yuyarisun_pool_sound(&pool) && yuyarisun_pool_free_records(&pool) == 3);
+    HOLD(yuyarisun_pool_look(&pool, 2, 2, 2).number == YUYARISUN_NO_SUCH_WORKER && yuyarisun_pool_post(&pool, 0, 2, 2).number == YUYARISUN_NO_SUCH_REGISTER);
+    HOLD(yuyarisun_pool_look(&pool, 0, 0, 2).number == YUYARISUN_NO_SUCH_LINK && yuyarisun_pool_post(&pool, 0, 2, 0).number == YUYARISUN_NO_SUCH_LINK);
+    return 0;
+}
+
 /* Each kind of event as bytes, many at once, and what stops them. */
 static int many(void)
 {
@@ -119,10 +139,12 @@ static int many(void)
         0x14, 0, 8, 1, 2, 3, 6, 1, 0, 1, 1, /* store */
         0x13, 0, 8, 1, 2, 3, 7, 1, 1, 0, 1, /* load */
         0x12, 0, 6, 1, 2, 3, 8, 1, 0,       /* drop */
-        0x20, 0, 4, 1, 2, 3, 9              /* collect */
+        0x16, 0, 7, 1, 2, 3, 9, 1, 0, 1,    /* post */
+        0x15, 0, 7, 1, 2, 3, 10, 0, 1, 0,   /* look */
+        0x20, 0, 4, 1, 2, 3, 11             /* collect */
     };
-    static const uint16_t answered[12] = {0, 1, 0, 1, 0, 0, 0, 1, 0, 0, 0, 0};
-    uint8_t bytes[6 * YUYARISUN_EVENT_MOST_BYTES];
+    static const uint16_t answered[16] = {0, 1, 0, 1, 0, 0, 0, 1, 0, 0, 0, 0, 0, 1, 0, 0};
+    uint8_t bytes[8 * YUYARISUN_EVENT_MOST_BYTES];
     uint16_t answers[YUYARISUN_ANSWERS_LENGTH(sizeof bytes)];
     uint32_t step = 0x01020304;
     uint8_t *at = bytes;
@@ -131,36 +153,38 @@ static int many(void)
     at = yuyarisun_put_store(at, step + 2, 1, 0, 1, 1);
     at = yuyarisun_put_load(at, step + 3, 1, 1, 0, 1);
     at = yuyarisun_put_drop(at, step + 4, 1, 0);
-    at = yuyarisun_put_collect(at, step + 5);
+    at = yuyarisun_put_post(at, step + 5, 1, 0, 1);
+    at = yuyarisun_put_look(at, step + 6, 0, 1, 0);
+    at = yuyarisun_put_collect(at, step + 7);
     const size_t length = (size_t)(at - bytes);
     HOLD(length == sizeof expected && memcmp(bytes, expected, length) == 0);
-    HOLD(YUYARISUN_ANSWERS_LENGTH(length) >= 12 && YUYARISUN_ANSWERS_LENGTH(6) == 0 && YUYARISUN_ANSWERS_LENGTH(14) == 4);
+    HOLD(YUYARISUN_ANSWERS_LENGTH(length) >= 16 && YUYARISUN_ANSWERS_LENGTH(6) == 0 && YUYARISUN_ANSWERS_LENGTH(14) == 4);
 
     yuyarisun_pool pool;
-    yuyarisun_sizes sizes = {N, K, W, R};
+    yuyarisun_sizes sizes = {N, K, W, R, B};
     HOLD(yuyarisun_lay(&pool, sizes, block, sizeof block / sizeof *block) == YUYARISUN_DONE && yuyarisun_pool_fresh(&pool) == YUYARISUN_DONE);
     memset(answers, 0xff, sizeof answers);
     yuyarisun_events_answer all = yuyarisun_pool_events(&pool, bytes, length, &step, answers, sizeof answers / sizeof *answers);
     HOLD(all.number == YUYARISUN_WRONG_STEP && all.place == 0 && all.events == 0 && step == 0x01020304 && answers[0] == 0xffff);
     step--;
     all = yuyarisun_pool_events(&pool, bytes, length, &step, answers, sizeof answers / sizeof *answers);
-    HOLD(all.number == YUYARISUN_DONE && all.place == length && all.events == 6 && step == 0x01020309);
-    HOLD(memcmp(answers, answered, sizeof answered) == 0 && answers[12] == 0xffff);
+    HOLD(all.number == YUYARISUN_DONE && all.place == length && all.events == 8 && step == 0x0102030b);
+    HOLD(memcmp(answers, answered, sizeof answered) == 0 && answers[16] == 0xffff);
     HOLD(pool.registers.numbers[1 * R + 0] == 0 && pool.registers.numbers[1 * R + 1] == 1 && pool.values.numbers[1] == 1 && pool.collector.phase == 1);
 
     all = yuyarisun_pool_events(&pool, NULL, 0, &step, NULL, 0);
-    HOLD(all.number == YUYARISUN_DONE && all.place == 0 && all.events == 0 && step == 0x01020309);
+    HOLD(all.number == YUYARISUN_DONE && all.place == 0 && all.events == 0 && step == 0x0102030b);
     at = yuyarisun_put_collect(bytes, step + 1);
     at = yuyarisun_put_collect(at, step + 3);
     all = yuyarisun_pool_events(&pool, bytes, (size_t)(at - bytes), &step, answers, 1);
-    HOLD(all.number == YUYARISUN_WRONG_STEP && all.place == 7 && all.events == 1 && step == 0x0102030a && answers[0] == 0 && answers[1] == 1);
+    HOLD(all.number == YUYARISUN_WRONG_STEP && all.place == 7 && all.events == 1 && step == 0x0102030c && answers[0] == 0 && answers[1] == 1);
     HOLD(pool.collector.position == 1);
     pool.lengths.length--;
     HOLD(yuyarisun_pool_events(&pool, bytes, 7, &step, NULL, 0).number == YUYARISUN_WRONG_SIZE);
     pool.lengths.length++;
     pool.used.numbers[0] = 2;
     all = yuyarisun_pool_events(&pool, bytes, 7, &step, NULL, 0);
-    HOLD(all.number == YUYARISUN_NOT_SOUND && all.place == 0 && all.events == 0 && step == 0x0102030a);
+    HOLD(all.number == YUYARISUN_NOT_SOUND && all.place == 0 && all.events == 0 && step == 0x0102030c);
     return 0;
 }
 
@@ -180,7 +204,7 @@ static int traced(void)
     yuyarisun_pool pool;
     uint16_t answers[18];
     yuyarisun_sizes sizes = yuyarisun_sizes_of_trace(trace, length);
-    HOLD(sizes.n == 2 && sizes.k == 1 && sizes.w == 1 && sizes.r == 1);
+    HOLD(sizes.n == 2 && sizes.k == 1 && sizes.w == 1 && sizes.r == 1 && sizes.b == 0);
     HOLD(yuyarisun_sizes_of_trace(trace, 10).n == 0 && yuyarisun_sizes_of_trace(NULL, 0).n == 0 && yuyarisun_sizes_of_trace(trace + 11, length - 11).n == 0);
     HOLD(yuyarisun_lay(&pool, sizes, block, sizeof block / sizeof *block) == YUYARISUN_DONE);
     memset(block, 0xff, sizeof block);
@@ -191,8 +215,30 @@ static int traced(void)
     whole = yuyarisun_pool_trace(&pool, trace, length - 7, NULL, 0);
     HOLD(whole.number == YUYARISUN_STOPS_SHORT && whole.place == length - 7 && whole.events == 9 && whole.free_records == 0 && yuyarisun_pool_sound(&pool));
     HOLD(yuyarisun_pool_trace(&pool, NULL, 0, NULL, 0).number == YUYARISUN_STOPS_SHORT);
+
+    /* The sizes with length 10: at first with a board of 2, then without one. */
+    uint8_t longer[sizeof trace + 2] = {0x01, 0, 10, 0, 2, 0, 1, 0, 1, 0, 1, 0, 2};
+    memcpy(longer + 13, trace + 11, length - 11);
+    HOLD(yuyarisun_sizes_of_trace(longer, 13).b == 2 && yuyarisun_sizes_of_trace(longer, 12).n == 0);
+    whole = yuyarisun_pool_trace(&pool, longer, length + 2, NULL, 0);
+    HOLD(whole.number == YUYARISUN_WRONG_SIZE && whole.place == 0 && whole.events == 0);
+    longer[12] = 0;
+    whole = yuyarisun_pool_trace(&pool, longer, length + 2, NULL, 0);
+    HOLD(whole.number == YUYARISUN_DONE && whole.events == 9 && whole.free_records == 1);
+    longer[2] = 9;
+    HOLD(yuyarisun_sizes_of_trace(longer, length + 2).n == 0 && yuyarisun_pool_trace(&pool, longer, length + 2, NULL, 0).number == YUYARISUN_WRONG_LENGTH);
+
+    /* Tables that were laid out for another k and b, of the same lengths. */
+    yuyarisun_sizes split = {2, 2, 1, 1, 0};
+    HOLD(yuyarisun_lay(&pool, split, block, sizeof block / sizeof *block) == YUYARISUN_DONE);
+    longer[2] = 10;
+    longer[12] = 2;
+    whole = yuyarisun_pool_trace(&pool, longer, length + 2, NULL, 0);
+    HOLD(whole.number == YUYARISUN_DONE && pool.sizes.k == 1 && pool.sizes.b == 2 && yuyarisun_pool_sound(&pool));
+    HOLD(yuyarisun_pool_trace(&pool, longer, 12, NULL, 0).number == YUYARISUN_STOPS_SHORT && pool.sizes.b == 2);
+
     pool.used.length--;
-    whole = yuyarisun_pool_trace(&pool, trace, length, NULL, 0);
+    whole = yuyarisun_pool_trace(&pool, longer, length + 2, NULL, 0);
     HOLD(whole.number == YUYARISUN_WRONG_SIZE && whole.place == 0 && whole.events == 0 && pool.collector.closed == 1);
     return 0;
 }
@@ -251,5 +297,5 @@ static int joined(void)
 
 int main(void)
 {
-    return words() || laid_out() || named() || many() || traced() || joined();
+    return words() || laid_out() || named() || board() || many() || traced() || joined();
 }

@@ -7,7 +7,8 @@
 
 use yuyarisun::{Lent, Tables};
 
-const LINKS: usize = 8192;
+/// No fewer than 8,208, and a multiple of 128.
+const LINKS: usize = 8320;
 const RECORDS: usize = 1025;
 
 /// Numbers of one table or-ed together: 0 where each is 0, at most 1 where each is.
@@ -54,7 +55,7 @@ fn entries(list: &[u16], pool: &Lent, mut say: impl FnMut(usize, u16)) -> bool {
     for entry in list.chunks_exact(2) {
         let (link, old) = (entry[0], entry[1]);
         ok &= (link < links) & (old <= records);
-        say(link as usize % LINKS, old);
+        say((link as usize).min(LINKS - 1), old);
     }
     ok
 }

@@ -8,11 +8,12 @@ use std::array;
 type Entry = (u16, u16);
 
 #[derive(Clone)]
-pub struct Pool<const N: usize, const K: usize, const W: usize, const R: usize> {
+pub struct Pool<const N: usize, const K: usize, const W: usize, const R: usize, const B: usize> {
     n: usize,
     k: usize,
     w: usize,
     r: usize,
+    b: usize,
     used: [bool; N],
     counts: [u16; N],
     held: [bool; N],
@@ -21,6 +22,10 @@ pub struct Pool<const N: usize, const K: usize, const W: usize, const R: usize> 
     values: [[u16; K]; N],
     changed: [[bool; K]; N],
     olds: [[u16; K]; N],
+    /// The board, whose link numbers follow those of N records.
+    board: [u16; B],
+    board_changed: [bool; B],
+    board_olds: [u16; B],
     registers: [[u16; R]; W],
     last_made: usize,
     snoops: [bool; W],
@@ -41,15 +46,19 @@ pub const NO_SUCH_LINK: u16 = 14;
 /// The number, and the value.
 pub type Answer = (u16, u16);
 
-impl<const N: usize, const K: usize, const W: usize, const R: usize> Pool<N, K, W, R> {
+impl<const N: usize, const K: usize, const W: usize, const R: usize, const B: usize> Pool<N, K, W, R, B> {
+    /// The number of board entry 0.
+    const BOARD: usize = N * K;
+
     /// A fresh pool, if the sizes are within the arrays.
-    pub fn fresh(n: usize, k: usize, w: usize, r: usize) -> Option<Self> {
+    pub fn fresh(n: usize, k: usize, w: usize, r: usize, b: usize) -> Option<Self> {
         let fits = |size: usize, largest: usize| (1..=largest).contains(&size);
-        (fits(n, N) && fits(k, K) && fits(w, W) && fits(r, R)).then(|| Pool {
+        (fits(n, N) && fits(k, K) && fits(w, W) && fits(r, R) && b <= B).then(|| Pool {
             n,
             k,
             w,
             r,
+            b,
             used: [false; N],
             counts: [0; N],
             held: [false; N],
@@ -58,11 +67,14 @@ impl<const N: usize, const K: usize, const W: usize, const R: usize> Pool<N, K, 
             values: [[0; K]; N],
             changed: [[false; K]; N],
             olds: [[0; K]; N],
+            board: [0; B],
+            board_changed: [false; B],
+            board_olds: [0; B],
             registers: [[0; R]; W],
             last_made: 0,
             snoops: [false; W],
-            logs: array::from_fn(|_| Vec::with_capacity(n * k)),
-            history: Vec::with_capacity(n * k),
+            logs: array::from_fn(|_| Vec::with_capacity(n * k + b)),
+            history: Vec::with_capacity(n * k + b),
             phase: 0,
             position: 0,
             closed: 0,
@@ -95,6 +107,8 @@ impl<const N: usize, const K: usize, const W: usize, const R: usize> Pool<N, K, 
             0x12 => self.drop_(a, b),
             0x13 => self.load(a, b, c, d),
             0x14 => self.store(a, b, c, d),
+            0x15 => self.look(a, b, c),
+            0x16 => self.post(a, b, c),
             _ => (DONE, self.collect()),
         }
     }
@@ -185,10 +199,41 @@ impl<const N: usize, const K: usize, const W: usize, const R: usize> Pool<N, K, 
             self.logs[w].push(((place * K + f) as u16, old));
         }
         self.values[place][f] = new;
+        self.snoop(w, new);
+        (DONE, old)
+    }
+
+    #[inline]
+    pub fn look(&mut self, w: usize, r: usize, e: usize) -> Answer {
+        if w >= self.w || r >= self.r || e >= self.b {
+            return self.wrong_number(w, r, r);
+        }
+        self.registers[w][r] = self.board[e];
+        (DONE, self.board[e])
+    }
+
+    #[inline]
+    pub fn post(&mut self, w: usize, e: usize, r: usize) -> Answer {
+        if w >= self.w || r >= self.r || e >= self.b {
+            return self.wrong_number(w, r, r);
+        }
+        let old = self.board[e];
+        let new = self.registers[w][r];
+        if !self.board_changed[e] {
+            self.board_changed[e] = true;
+            self.board_olds[e] = old;
+            self.logs[w].push(((Self::BOARD + e) as u16, old));
+        }
+        self.board[e] = new;
+        self.snoop(w, new);
+        (DONE, old)
+    }
+
+    #[inline]
+    fn snoop(&mut self, w: usize, new: u16) {
         if self.snoops[w] && new != 0 {
             self.held[new as usize - 1] = true;
         }
-        (DONE, old)
     }
 
     fn onward(&mut self, positions: usize) {
@@ -215,7 +260,10 @@ impl<const N: usize, const K: usize, const W: usize, const R: usize> Pool<N, K, 
             2 => self.take(),
             3 => {
                 let link = self.history[self.position].0 as usize;
-                self.changed[link / K][link % K] = false;
+                match link.checked_sub(Self::BOARD) {
+                    Some(e) => self.board_changed[e] = false,
+                    None => self.changed[link / K][link % K] = false,
+                }
                 self.onward(self.history.len());
             }
             4 => self.scan(),
@@ -250,9 +298,8 @@ impl<const N: usize, const K: usize, const W: usize, const R: usize> Pool<N, K, 
 
     fn count(&mut self) {
         let (link, old) = self.history[self.position];
-        let (place, f) = (link as usize / K, link as usize % K);
         self.falls(old);
-        let view = if self.changed[place][f] { self.olds[place][f] } else { self.values[place][f] };
+        let view = self.view(link as usize);
         if view != 0 {
             self.counts[view as usize - 1] += 1;
         }
@@ -261,6 +308,21 @@ impl<const N: usize, const K: usize, const W: usize, const R: usize> Pool<N, K, 
             self.history.clear();
         }
         self.onward(entries);
+    }
+
+    fn view(&self, link: usize) -> u16 {
+        let (changed, old, value) = match link.checked_sub(Self::BOARD) {
+            Some(e) => (self.board_changed[e], self.board_olds[e], self.board[e]),
+            None => {
+                let (place, f) = (link / K, link % K);
+                (self.changed[place][f], self.olds[place][f], self.values[place][f])
+            }
+        };
+        if changed {
+            old
+        } else {
+            value
+        }
     }
 
     fn falls(&mut self, a: u16) {

@@ -15,8 +15,8 @@ pub type Event = [u8; 5];
 pub const WORKER_HEAVY: usize = 10;
 pub const COLLECTOR_HEAVY: usize = 90;
 
-pub struct Maker<const N: usize, const K: usize, const W: usize, const R: usize> {
-    pool: Box<Pool<N, K, W, R>>,
+pub struct Maker<const N: usize, const K: usize, const W: usize, const R: usize, const B: usize> {
+    pool: Box<Pool<N, K, W, R, B>>,
     random: Random,
     collects: usize,
     /// When each record was made.
@@ -24,9 +24,9 @@ pub struct Maker<const N: usize, const K: usize, const W: usize, const R: usize>
     made: u64,
 }
 
-impl<const N: usize, const K: usize, const W: usize, const R: usize> Maker<N, K, W, R> {
+impl<const N: usize, const K: usize, const W: usize, const R: usize, const B: usize> Maker<N, K, W, R, B> {
     pub fn new(seed: u64, collects: usize) -> Self {
-        let pool = Pool::fresh(N, K, W, R).expect("the largest sizes");
+        let pool = Pool::fresh(N, K, W, R, B).expect("the largest sizes");
         Maker { pool: Box::new(pool), random: Random::new(seed), collects, births: [0; N], made: 0 }
     }
 
@@ -54,14 +54,16 @@ impl<const N: usize, const K: usize, const W: usize, const R: usize> Maker<N, K,
             return [0x20, 0, 0, 0, 0];
         }
         let w = self.random.below(W);
-        let (r, q, f) = (self.random.below(R), self.full(w), self.random.below(K));
+        let (r, q, f, e) = (self.random.below(R), self.full(w), self.random.below(K), self.random.below(B));
         let roll = self.random.below(100);
-        let [w8, r8, q8, f8] = [w as u8, r as u8, q as u8, f as u8];
+        let [w8, r8, q8, f8, e8] = [w as u8, r as u8, q as u8, f as u8, e as u8];
         match roll {
             0..=19 if self.pool.has_free() => [0x10, w8, r8, 0, 0],
             0..=29 => [0x11, w8, r8, q8, 0],
             30..=44 => [0x12, w8, r8, 0, 0],
-            45..=64 => [0x13, w8, r8, q8, f8],
+            45..=59 => [0x13, w8, r8, q8, f8],
+            60..=64 => [0x15, w8, r8, e8, 0],
+            65..=69 => [0x16, w8, e8, q8, 0],
             _ if self.birth(w, q) > self.birth(w, r) => [0x14, w8, q8, f8, r8],
             _ if self.birth(w, r) > self.birth(w, q) => [0x14, w8, r8, f8, q8],
             _ => [0x12, w8, q8, 0, 0],
@@ -83,13 +85,13 @@ impl<const N: usize, const K: usize, const W: usize, const R: usize> Maker<N, K,
 
 /// A whole trace at the largest sizes of `replay`.
 pub fn write_trace(to: &mut impl Write, seed: u64, collects: usize, events: u32) -> io::Result<()> {
-    let mut maker = Maker::<64, 4, 4, 8>::new(seed, collects);
-    to.write_all(&[0x01, 0, 8, 0, 64, 0, 4, 0, 4, 0, 8])?;
+    let mut maker = Maker::<64, 4, 4, 8, 8>::new(seed, collects);
+    to.write_all(&[0x01, 0, 10, 0, 64, 0, 4, 0, 4, 0, 8, 0, 8])?;
     for step in 1..=events {
         let event = maker.next();
         let numbers = match event[0] {
             0x10 | 0x12 => 2,
-            0x11 => 3,
+            0x11 | 0x15 | 0x16 => 3,
             0x13 | 0x14 => 4,
             _ => 0,
         };

@@ -4,7 +4,8 @@
 
 use yuyarisun::Sizes;
 
-const SIZES_FIELD: usize = 11;
+/// With the board, as `made` writes it.
+const SIZES_FIELD: usize = 13;
 const END_FIELD: usize = 7;
 
 /// Parts end to end, and how long each is.
@@ -17,7 +18,7 @@ pub struct Parts {
 fn payload(tag: u8) -> usize {
     match tag {
         0x10 | 0x12 => 6,
-        0x11 => 7,
+        0x11 | 0x15 | 0x16 => 7,
         0x13 | 0x14 => 8,
         0x20 => 4,
         _ => 0,

@@ -111,6 +111,7 @@ pub struct Situation {
 
 pub fn all(sizes: Sizes) -> Vec<Situation> {
     let (s, w, r, f) = (sizes.links(), sizes.w as u8 - 1, sizes.r as u8 - 1, sizes.k as u8 - 1);
+    let e = sizes.b as u8 - 1;
     let one_free = |last_made: u16, free: u16| {
         let mut pool = quiet(sizes);
         pool.tables.registers[(sizes.w * sizes.r) as usize] = last_made;
@@ -142,6 +143,8 @@ pub fn all(sizes: Sizes) -> Vec<Situation> {
         situation("drop", &full, Event::Drop { w, r }),
         situation("load", &full, Event::Load { w, r, q: 0, f }),
         situation("store that logs and snoops", &snooping, Event::Store { w, q: r, f, r: 0 }),
+        situation("look", &full, Event::Look { w, r, e }),
+        situation("post that logs and snoops", &snooping, Event::Post { w, e, r: 0 }),
         situation("phase 0, opens", &full, Event::Collect),
         situation("phase 1, one snoop flag", &opened, Event::Collect),
         situation("phase 2, a log of S entries, all records made", &taken, Event::Collect),

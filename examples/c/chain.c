@@ -4,12 +4,12 @@
 
 #include "yuyarisun.h"
 
-enum { N = 8, K = 2, W = 1, R = 3 };
-static uint16_t block[YUYARISUN_TOTAL_LENGTH(N, K, W, R)];
+enum { N = 8, K = 2, W = 1, R = 3, B = 0 };
+static uint16_t block[YUYARISUN_TOTAL_LENGTH(N, K, W, R, B)];
 
 int main(void)
 {
-    const yuyarisun_sizes sizes = {N, K, W, R};
+    const yuyarisun_sizes sizes = {N, K, W, R, B};
     yuyarisun_pool pool;
     if (yuyarisun_lay(&pool, sizes, block, sizeof block / sizeof *block) != YUYARISUN_DONE)
         return 1;

@@ -85,7 +85,7 @@ impl Error for Unjoined {
 ///
 /// let part = |steps: &[u32]| {
 ///     let mut bytes = Vec::new();
-///     Field::Sizes(Sizes { n: 2, k: 1, w: 1, r: 1 }).put(&mut bytes);
+///     Field::Sizes(Sizes { n: 2, k: 1, w: 1, r: 1, b: 0 }).put(&mut bytes);
 ///     steps.iter().for_each(|step| Field::Event { step: *step, event: Event::Collect }.put(&mut bytes));
 ///     Field::End { count: steps.len() as u32 }.put(&mut bytes);
 ///     bytes

@@ -3,7 +3,7 @@
 //! proved in Rattle; this crate is a safe type over the static library that comes of it.
 //!
 //! - [`Pool`]      a pool that owns its tables: the one to use
-//! - [`Sizes`]     how many records, links, workers and registers it has
+//! - [`Sizes`]     how many records, links, workers, registers and board entries it has
 //! - [`Record`]    a record's number; none is `None`
 //! - [`Event`]     an event as a value, for those who read events from somewhere
 //! - [`Refusal`]   why a call refuses, with the documents' number and its words
@@ -15,8 +15,8 @@
 //! ```
 //! use yuyarisun::{Pool, Sizes};
 //!
-//! // 8 records with 2 links each, one worker with 2 registers
-//! let mut pool = Pool::new(Sizes { n: 8, k: 2, w: 1, r: 2 })?;
+//! // 8 records with 2 links each, one worker with 2 registers, no board
+//! let mut pool = Pool::new(Sizes { n: 8, k: 2, w: 1, r: 2, b: 0 })?;
 //! let first = pool.make(0, 0)?;
 //! let second = pool.make(0, 1)?;
 //! pool.store(0, 0, 0, 1)?; // link 0 of the first leads to the second

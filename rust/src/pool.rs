@@ -12,23 +12,23 @@ use crate::trace::{answered, Answer};
 /// sound pool a sound pool; so an event on a `Pool` does not look through the tables first, as it
 /// does on [`Lent`](crate::Lent) ones.
 ///
-/// In every call `w` is a worker, `r` and `q` are registers of it, and `f` is a link of the record
-/// in `q`, each counted from 0.
+/// In every call `w` is a worker, `r` and `q` are registers of it, `f` is a link of the record in `q`,
+/// and `e` is a board entry, each counted from 0.
 #[derive(Clone, Debug, PartialEq, Eq)]
 pub struct Pool {
     sound: Sound,
 }
 
 impl Pool {
-    /// A fresh pool: every record free, every register and link none.
+    /// A fresh pool: every record free, every register, link and board entry none.
     ///
     /// Refuses by [`Refusal::WrongSize`] where a size is out of its range.
     ///
     /// ```
     /// use yuyarisun::{Pool, Refusal, Sizes};
     ///
-    /// assert!(Pool::new(Sizes { n: 1024, k: 8, w: 8, r: 16 }).is_ok());
-    /// assert_eq!(Pool::new(Sizes { n: 1025, k: 8, w: 8, r: 16 }), Err(Refusal::WrongSize));
+    /// assert!(Pool::new(Sizes { n: 1024, k: 8, w: 8, r: 16, b: 16 }).is_ok());
+    /// assert_eq!(Pool::new(Sizes { n: 1025, k: 8, w: 8, r: 16, b: 16 }), Err(Refusal::WrongSize));
     /// ```
     pub fn new(sizes: Sizes) -> Result<Pool, Refusal> {
         Sound::fresh(sizes).map(|sound| Pool { sound }).ok_or(Refusal::WrongSize)
@@ -42,7 +42,7 @@ impl Pool {
     /// ```
     /// use yuyarisun::{Pool, Refusal, Sizes};
     ///
-    /// let sizes = Sizes { n: 4, k: 1, w: 1, r: 1 };
+    /// let sizes = Sizes { n: 4, k: 1, w: 1, r: 1, b: 0 };
     /// let mut pool = Pool::new(sizes)?;
     /// let made = pool.make(0, 0)?;
     ///
@@ -71,7 +71,7 @@ impl Pool {
     /// ```
     /// use yuyarisun::{Event, Pool, Refusal, Sizes};
     ///
-    /// let mut pool = Pool::new(Sizes { n: 1, k: 1, w: 1, r: 1 })?;
+    /// let mut pool = Pool::new(Sizes { n: 1, k: 1, w: 1, r: 1, b: 0 })?;
     /// let make = Event::Make { w: 0, r: 0 };
     /// let events = [make, make, Event::Collect, Event::Drop { w: 1, r: 0 }];
     /// let answers = events.map(|event| pool.event(event).map(|value| value.map(|record| record.number())));
@@ -89,7 +89,7 @@ impl Pool {
     /// ```
     /// use yuyarisun::{Event, Pool, Record, Refusal, Sizes};
     ///
-    /// let mut pool = Pool::new(Sizes { n: 1, k: 1, w: 1, r: 2 })?;
+    /// let mut pool = Pool::new(Sizes { n: 1, k: 1, w: 1, r: 2, b: 0 })?;
     /// let events = [Event::Make { w: 0, r: 0 }, Event::Make { w: 0, r: 1 }, Event::Move { w: 0, r: 1, q: 0 }];
     /// let first = Record::of_number(1);
     /// assert_eq!(pool.run(events), [Ok(first), Err(Refusal::NoneFree), Ok(first)]);
@@ -108,7 +108,7 @@ impl Pool {
     /// ```
     /// use yuyarisun::{Pool, Refusal, Sizes};
     ///
-    /// let mut pool = Pool::new(Sizes { n: 1, k: 1, w: 1, r: 2 })?;
+    /// let mut pool = Pool::new(Sizes { n: 1, k: 1, w: 1, r: 2, b: 0 })?;
     /// assert_eq!(pool.make(0, 0)?.number(), 1);
     /// assert_eq!(pool.make(0, 1), Err(Refusal::NoneFree));
     /// assert_eq!(pool.make(1, 0), Err(Refusal::NoSuchWorker));
@@ -126,7 +126,7 @@ impl Pool {
     /// ```
     /// use yuyarisun::{Pool, Sizes};
     ///
-    /// let mut pool = Pool::new(Sizes { n: 1, k: 1, w: 1, r: 2 })?;
+    /// let mut pool = Pool::new(Sizes { n: 1, k: 1, w: 1, r: 2, b: 0 })?;
     /// let made = pool.make(0, 0)?;
     /// assert_eq!(pool.move_register(0, 1, 0)?, Some(made));
     /// # Ok::<(), yuyarisun::Refusal>(())
@@ -150,7 +150,7 @@ impl Pool {
     /// ```
     /// use yuyarisun::{Pool, Refusal, Sizes};
     ///
-    /// let mut pool = Pool::new(Sizes { n: 1, k: 1, w: 1, r: 2 })?;
+    /// let mut pool = Pool::new(Sizes { n: 1, k: 1, w: 1, r: 2, b: 0 })?;
     /// let made = pool.make(0, 0)?;
     /// assert_eq!(pool.load(0, 1, 0, 0)?, None);
     /// pool.store(0, 0, 0, 0)?;
@@ -170,7 +170,7 @@ impl Pool {
     /// ```
     /// use yuyarisun::{Pool, Sizes};
     ///
-    /// let mut pool = Pool::new(Sizes { n: 2, k: 1, w: 1, r: 2 })?;
+    /// let mut pool = Pool::new(Sizes { n: 2, k: 1, w: 1, r: 2, b: 0 })?;
     /// pool.make(0, 0)?;
     /// let second = pool.make(0, 1)?;
     /// assert_eq!(pool.store(0, 0, 0, 1)?, None);
@@ -181,6 +181,45 @@ impl Pool {
         self.event(Event::Store { w, q, f, r })
     }
 
+    /// Register `r` takes what board entry `e` holds, which is answered.
+    ///
+    /// Refuses by [`Refusal::NoSuchWorker`], then by [`Refusal::NoSuchRegister`], and then by
+    /// [`Refusal::NoSuchLink`] where there is no such entry.
+    ///
+    /// ```
+    /// use yuyarisun::{Pool, Refusal, Sizes};
+    ///
+    /// let mut pool = Pool::new(Sizes { n: 1, k: 1, w: 2, r: 1, b: 1 })?;
+    /// let made = pool.make(0, 0)?;
+    /// pool.post(0, 0, 0)?;
+    /// assert_eq!(pool.look(1, 0, 0)?, Some(made)); // now worker 1 has it too
+    /// assert_eq!(pool.look(1, 0, 1), Err(Refusal::NoSuchLink));
+    /// # Ok::<(), Refusal>(())
+    /// ```
+    pub fn look(&mut self, w: u8, r: u8, e: u8) -> Result<Option<Record>, Refusal> {
+        self.event(Event::Look { w, r, e })
+    }
+
+    /// Board entry `e` takes what `r` holds, which may be none. The value that was overwritten is
+    /// answered. What the board holds is not freed, whoever drops it.
+    ///
+    /// Refuses by [`Refusal::NoSuchWorker`], then by [`Refusal::NoSuchRegister`], and then by
+    /// [`Refusal::NoSuchLink`] where there is no such entry.
+    ///
+    /// ```
+    /// use yuyarisun::{Pool, Sizes};
+    ///
+    /// let mut pool = Pool::new(Sizes { n: 1, k: 1, w: 1, r: 1, b: 1 })?;
+    /// let made = pool.make(0, 0)?;
+    /// assert_eq!(pool.post(0, 0, 0)?, None);
+    /// pool.drop_register(0, 0)?;
+    /// assert_eq!(pool.post(0, 0, 0)?, Some(made)); // none, over it
+    /// # Ok::<(), yuyarisun::Refusal>(())
+    /// ```
+    pub fn post(&mut self, w: u8, e: u8, r: u8) -> Result<Option<Record>, Refusal> {
+        self.event(Event::Post { w, e, r })
+    }
+
     /// One collector step; the record that it freed, if it freed one. It is never refused.
     ///
     /// How far it has come is [`Pool::collector`]: a cycle opens with the step out of phase 0 and
@@ -189,7 +228,7 @@ impl Pool {
     /// ```
     /// use yuyarisun::{Pool, Sizes};
     ///
-    /// let mut pool = Pool::new(Sizes { n: 2, k: 1, w: 1, r: 1 })?;
+    /// let mut pool = Pool::new(Sizes { n: 2, k: 1, w: 1, r: 1, b: 0 })?;
     /// let made = pool.make(0, 0)?;
     /// pool.drop_register(0, 0)?;
     /// let steps: Vec<_> = (0..6).map(|_| pool.collect()).collect();
@@ -206,7 +245,7 @@ impl Pool {
     /// ```
     /// use yuyarisun::{Pool, Sizes};
     ///
-    /// let mut pool = Pool::new(Sizes { n: 8, k: 1, w: 1, r: 1 })?;
+    /// let mut pool = Pool::new(Sizes { n: 8, k: 1, w: 1, r: 1, b: 0 })?;
     /// pool.make(0, 0)?;
     /// assert_eq!(pool.free_records(), 7);
     /// # Ok::<(), yuyarisun::Refusal>(())
@@ -230,7 +269,7 @@ impl Pool {
     /// ```
     /// use yuyarisun::{Pool, Sizes};
     ///
-    /// let mut pool = Pool::new(Sizes { n: 8, k: 1, w: 2, r: 1 })?;
+    /// let mut pool = Pool::new(Sizes { n: 8, k: 1, w: 2, r: 1, b: 0 })?;
     /// pool.make(1, 0)?;
     /// assert_eq!(pool.tables().registers, [0, 1, 1]); // worker 0, worker 1, the last made number
     /// assert_eq!(pool.tables().makers[0], 2); // worker 1

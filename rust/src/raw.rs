@@ -42,7 +42,7 @@ macro_rules! lent_a_pool {
     ($(fn $name:ident(.. $(, $more:ident: $type:ty)*) -> u16;)*) => {
         lent_tables! { *mut u16: $(
             fn $name(
-                [n: u16, k: u16, w: u16, r: u16], ..,
+                [n: u16, k: u16, w: u16, r: u16, b: u16], ..,
                 phase: *mut u16, position: *mut u16, closed: *mut u16 $(, $more: $type)*
             ) -> u16;
         )* }
@@ -55,6 +55,8 @@ lent_a_pool! {
     fn yuyarisun_drop(.., value: *mut u16, worker: u8, dropped: u8) -> u16;
     fn yuyarisun_load(.., value: *mut u16, worker: u8, into: u8, through: u8, link: u8) -> u16;
     fn yuyarisun_store(.., value: *mut u16, worker: u8, through: u8, link: u8, from: u8) -> u16;
+    fn yuyarisun_look(.., value: *mut u16, worker: u8, into: u8, entry: u8) -> u16;
+    fn yuyarisun_post(.., value: *mut u16, worker: u8, entry: u8, from: u8) -> u16;
     fn yuyarisun_collect(.., value: *mut u16) -> u16;
     fn yuyarisun_fresh(..) -> u16;
     fn yuyarisun_events(
@@ -75,7 +77,7 @@ lent_tables! { *mut u16:
 
 lent_tables! { *const u16:
     fn yuyarisun_sound(
-        [n: u16, k: u16, w: u16, r: u16], .., phase: u16, position: u16, closed: u16
+        [n: u16, k: u16, w: u16, r: u16, b: u16], .., phase: u16, position: u16, closed: u16
     ) -> bool;
 }
 
@@ -120,7 +122,7 @@ macro_rules! lend_tables {
 macro_rules! lend_a_pool {
     ($name:ident, $sizes:expr, $tables:expr, $collector:expr $(, $more:expr)*) => {
         lend_tables!(
-            $name, [$sizes.n, $sizes.k, $sizes.w, $sizes.r], $tables, as_mut_ptr,
+            $name, [$sizes.n, $sizes.k, $sizes.w, $sizes.r, $sizes.b], $tables, as_mut_ptr,
             &mut $collector.phase, &mut $collector.position, &mut $collector.closed
             $(, $more)*
         )
@@ -149,6 +151,8 @@ pub(crate) fn event(
         Event::Drop { w, r } => call!(yuyarisun_drop, w, r),
         Event::Load { w, r, q, f } => call!(yuyarisun_load, w, r, q, f),
         Event::Store { w, q, f, r } => call!(yuyarisun_store, w, q, f, r),
+        Event::Look { w, r, e } => call!(yuyarisun_look, w, r, e),
+        Event::Post { w, e, r } => call!(yuyarisun_post, w, e, r),
         Event::Collect => call!(yuyarisun_collect),
     };
     (number, value)
@@ -162,9 +166,9 @@ pub(crate) fn fresh(sizes: Sizes, tables: &mut Tables, collector: &mut Collector
 
 /// Whether sizes are in range, every length is exact and the pool is sound.
 pub(crate) fn is_sound(sizes: Sizes, tables: &Tables, collector: Collector) -> bool {
-    let (Sizes { n, k, w, r }, Collector { phase, position, closed }) = (sizes, collector);
+    let (Sizes { n, k, w, r, b }, Collector { phase, position, closed }) = (sizes, collector);
     // SAFETY: a public function, lent tables to read alone, behind a `&`.
-    unsafe { lend_tables!(yuyarisun_sound, [n, k, w, r], tables, as_ptr, phase, position, closed) }
+    unsafe { lend_tables!(yuyarisun_sound, [n, k, w, r, b], tables, as_ptr, phase, position, closed) }
 }
 
 /// How many events, or a trace, ended.

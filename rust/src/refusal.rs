@@ -8,7 +8,7 @@ use std::fmt;
 /// ```
 /// use yuyarisun::{Pool, Refusal, Sizes};
 ///
-/// let mut pool = Pool::new(Sizes { n: 1, k: 1, w: 1, r: 1 })?;
+/// let mut pool = Pool::new(Sizes { n: 1, k: 1, w: 1, r: 1, b: 0 })?;
 /// let refusal = pool.load(0, 0, 0, 0).unwrap_err();
 /// assert_eq!(refusal, Refusal::HoldsNone);
 /// assert_eq!(refusal.number(), 4);
@@ -43,7 +43,7 @@ pub enum Refusal {
     WrongCount = 12,
     /// 13: no such register.
     NoSuchRegister = 13,
-    /// 14: no such link.
+    /// 14: no such link or board entry.
     NoSuchLink = 14,
     /// 15: two parts differ in sizes.
     SizesDiffer = 15,
@@ -110,7 +110,7 @@ impl Refusal {
             Refusal::ExtraByte => "a byte after the end field",
             Refusal::WrongCount => "end field's count is not the last step number",
             Refusal::NoSuchRegister => "no such register",
-            Refusal::NoSuchLink => "no such link",
+            Refusal::NoSuchLink => "no such link or board entry",
             Refusal::SizesDiffer => "two parts differ in sizes",
             Refusal::OutputShort => "the output is too short",
         }

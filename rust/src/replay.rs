@@ -9,8 +9,8 @@ use crate::sizes::{Collector, Sizes, Tables};
 use crate::trace::{answers_in, answers_length, Answer, Stop};
 
 /// A trace, replayed on tables of its own. It prints as the program `replay` does, which takes sizes
-/// up to N 64, K 4, W 4 and R 8 alone: of a trace with larger ones that program prints `refused 1 0`,
-/// and this its lines.
+/// up to N 64, K 4, W 4, R 8 and B 8 alone: of a trace with larger ones that program prints `refused 1
+/// 0`, and this its lines.
 #[derive(Clone, Debug, PartialEq, Eq)]
 pub struct Replay {
     /// What each event was answered; the first has step 1.
@@ -20,14 +20,14 @@ pub struct Replay {
 }
 
 /// Replays a trace on tables that are made for the sizes that it begins with, which may be all that
-/// document 01 has. Whoever wants the tables of a trace that is refused lends them, to
+/// a pool has. Whoever wants the tables of a trace that is refused lends them, to
 /// [`Lent::trace`].
 ///
 /// ```
 /// use yuyarisun::{replay, Event, Field, Refusal, Sizes};
 ///
 /// let mut trace = Vec::new();
-/// Field::Sizes(Sizes { n: 2, k: 1, w: 1, r: 1 }).put(&mut trace);
+/// Field::Sizes(Sizes { n: 2, k: 1, w: 1, r: 1, b: 0 }).put(&mut trace);
 /// let events = [Event::Make { w: 0, r: 0 }, Event::Load { w: 0, r: 0, q: 0, f: 1 }, Event::Collect];
 /// for (event, step) in events.into_iter().zip(1..) {
 ///     Field::Event { step, event }.put(&mut trace);
@@ -47,7 +47,7 @@ pub fn replay(bytes: &[u8]) -> Replay {
     // it before any is touched.
     let sizes = Sizes::of_trace(bytes).filter(|sizes| sizes.in_range());
     let tables = sizes.map_or_else(Tables::default, Tables::zeros);
-    let sizes = sizes.unwrap_or(Sizes { n: 0, k: 0, w: 0, r: 0 });
+    let sizes = sizes.unwrap_or(Sizes { n: 0, k: 0, w: 0, r: 0, b: 0 });
     let mut lent = Lent { sizes, tables, collector: Collector::default() };
     let mut numbers = vec![0; answers_length(bytes.len())];
     let ending = lent.trace(bytes, &mut numbers);

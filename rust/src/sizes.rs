@@ -1,6 +1,6 @@
 //! What a pool consists of, in the open: its sizes, its twelve tables and the collector's record.
 
-/// The sizes of a pool. There are S = N x K links.
+/// The sizes of a pool. There are S = N x K + B links: those of the records, and the board entries.
 #[derive(Clone, Copy, Debug, PartialEq, Eq, Hash)]
 pub struct Sizes {
     /// N, how many records: 1..1024.
@@ -11,38 +11,44 @@ pub struct Sizes {
     pub w: u16,
     /// R, how many registers each worker has: 1..16.
     pub r: u16,
+    /// B, how many entries the board has, through which workers pass records: 0..16.
+    pub b: u16,
 }
 
 impl Sizes {
     /// The largest sizes.
-    pub const LARGEST: Sizes = Sizes { n: 1024, k: 8, w: 8, r: 16 };
+    pub const LARGEST: Sizes = Sizes { n: 1024, k: 8, w: 8, r: 16, b: 16 };
 
     /// Whether each size is in its range.
     pub fn in_range(self) -> bool {
         let most = Sizes::LARGEST;
         let pairs = [(self.n, most.n), (self.k, most.k), (self.w, most.w), (self.r, most.r)];
-        pairs.into_iter().all(|(size, largest)| (1..=largest).contains(&size))
+        pairs.into_iter().all(|(size, largest)| (1..=largest).contains(&size)) && self.b <= most.b
     }
 
     /// The sizes that a trace begins with, in range or not; `None` if no whole sizes field stands
-    /// there.
+    /// there. A field of length 8 says that there is no board, one of length 10 has B at its end.
     ///
     /// ```
     /// use yuyarisun::Sizes;
     ///
-    /// let trace = [1, 0, 8, 4, 0, 0, 8, 0, 8, 0, 16, 0x7F, 0, 4, 0, 0, 0, 0];
+    /// let trace = [1, 0, 10, 4, 0, 0, 8, 0, 8, 0, 16, 0, 16, 0x7F, 0, 4, 0, 0, 0, 0];
     /// assert_eq!(Sizes::of_trace(&trace), Some(Sizes::LARGEST));
-    /// assert_eq!(Sizes::of_trace(&trace[..10]), None);
+    /// assert_eq!(Sizes::of_trace(&trace[..12]), None);
+    /// let without = [1, 0, 8, 4, 0, 0, 8, 0, 8, 0, 16, 0x7F, 0, 4, 0, 0, 0, 0];
+    /// assert_eq!(Sizes::of_trace(&without), Some(Sizes { b: 0, ..Sizes::LARGEST }));
     /// ```
     pub fn of_trace(bytes: &[u8]) -> Option<Sizes> {
-        let &[0x01, 0, 8, a, b, c, d, e, f, g, h, ..] = bytes else { return None };
-        let [n, k, w, r] = [[a, b], [c, d], [e, f], [g, h]].map(u16::from_be_bytes);
-        Some(Sizes { n, k, w, r })
+        let &[0x01, 0, length @ (8 | 10), ref behind @ ..] = bytes else { return None };
+        let payload = behind.get(..length.into())?;
+        let mut sizes = payload.chunks_exact(2).map(|two| u16::from_be_bytes([two[0], two[1]]));
+        let mut next = || sizes.next().unwrap_or(0);
+        Some(Sizes { n: next(), k: next(), w: next(), r: next(), b: next() })
     }
 
-    /// S, how many links there are in all.
+    /// S, how many links there are in all, the board entries among them.
     pub fn links(self) -> usize {
-        usize::from(self.n) * usize::from(self.k)
+        usize::from(self.n) * usize::from(self.k) + usize::from(self.b)
     }
 }
 
@@ -61,7 +67,7 @@ pub struct Tables {
     /// N: of record a at a - 1, the worker that made it + 1, or 0.
     pub makers: Vec<u16>,
     /// S: of link l at l, the record that it leads to, or 0. Link f of record a has the number (a -
-    /// 1) x K + f.
+    /// 1) x K + f, and board entry e the number N x K + e.
     pub values: Vec<u16>,
     /// S: of link l at l, its changed mark.
     pub changed: Vec<u16>,

@@ -8,6 +8,7 @@ use crate::event::{Event, Record};
 use crate::lent::Lent;
 use crate::raw;
 use crate::refusal::Refusal;
+use crate::sizes::Sizes;
 
 /// What an event is answered: its value, or why it is refused.
 pub type Answer = Result<Option<Record>, Refusal>;
@@ -95,7 +96,7 @@ impl Lent {
     /// ```
     /// use yuyarisun::{Collector, Event, Lent, Refusal, Sizes, Tables};
     ///
-    /// let sizes = Sizes { n: 4, k: 1, w: 1, r: 1 };
+    /// let sizes = Sizes { n: 4, k: 1, w: 1, r: 1, b: 0 };
     /// let mut lent = Lent { sizes, tables: Tables::zeros(sizes), collector: Collector::default() };
     /// assert!(lent.is_sound());
     /// assert_eq!(lent.event(Event::Collect), Ok(None));
@@ -126,7 +127,7 @@ impl Lent {
     /// ```
     /// use yuyarisun::{answers_in, Collector, Event, Field, Lent, Record, Refusal, Sizes, Tables};
     ///
-    /// let sizes = Sizes { n: 4, k: 1, w: 1, r: 1 };
+    /// let sizes = Sizes { n: 4, k: 1, w: 1, r: 1, b: 0 };
     /// let mut lent = Lent { sizes, tables: Tables::zeros(sizes), collector: Collector::default() };
     /// let mut bytes = Vec::new();
     /// Field::Event { step: 1, event: Event::Make { w: 0, r: 0 } }.put(&mut bytes);
@@ -147,8 +148,8 @@ impl Lent {
     }
 
     /// A whole trace. Its sizes field makes the tables a fresh pool, whatever they held, if they
-    /// have the lengths of its sizes; the `sizes` here are not looked at, and stay. `answers` is as
-    /// for [`Lent::events`].
+    /// have the lengths of its sizes. The `sizes` here are not looked at: an accepted sizes field makes
+    /// them the trace's, for lengths leave K and B open. `answers` is as for [`Lent::events`].
     ///
     /// Stops where a field is refused, with the tables as the fields before left them.
     ///
@@ -167,6 +168,10 @@ impl Lent {
     /// assert_eq!((stop.refusal, stop.place), (Refusal::WrongSize, 0));
     /// ```
     pub fn trace(&mut self, bytes: &[u8], answers: &mut [u16]) -> Result<Whole, Stop> {
-        whole(raw::trace(&mut self.tables, &mut self.collector, bytes, answers))
+        let ended = raw::trace(&mut self.tables, &mut self.collector, bytes, answers);
+        // Whatever is refused behind the sizes field has another place.
+        let accepted = ended.number == 0 || ended.place > 0;
+        self.sizes = Sizes::of_trace(bytes).filter(|_| accepted).unwrap_or(self.sizes);
+        whole(ended)
     }
 }

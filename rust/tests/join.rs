@@ -4,7 +4,7 @@ use std::error::Error;
 
 use yuyarisun::{join, join_into, replay, Event, Field, Refusal, Sizes, Unjoined, Within};
 
-const SIZES: Sizes = Sizes { n: 2, k: 1, w: 2, r: 1 };
+const SIZES: Sizes = Sizes { n: 2, k: 1, w: 2, r: 1, b: 0 };
 
 fn part(sizes: Sizes, events: &[(u32, Event)]) -> Vec<u8> {
     let mut bytes = Vec::new();
@@ -28,7 +28,7 @@ fn unjoined(parts: &[&[u8]]) -> (Refusal, usize, Option<(usize, usize)>) {
 /// "One file for each worker": nine parts at most, as there are eight workers at most.
 #[test]
 fn the_parts_of_every_worker_and_the_collector() -> Result<(), Box<dyn Error>> {
-    let sizes = Sizes { n: 16, k: 1, w: 8, r: 1 };
+    let sizes = Sizes { n: 16, k: 1, w: 8, r: 1, b: 0 };
     let make = |w: u8| (u32::from(w) + 1, Event::Make { w, r: 0 });
     let drop = |w: u8| (u32::from(w) + 9, Event::Drop { w, r: 0 });
     let mut parts: Vec<Vec<u8>> = (0..8).map(|w| part(sizes, &[make(w), drop(w)])).collect();
@@ -112,6 +112,23 @@ fn a_refused_field_has_its_part_and_its_place() {
     let mut other_length = whole.clone();
     other_length[13] = 6;
     assert_eq!(unjoined(&[&whole, &other_length]), (Refusal::WrongLength, 43, Some((1, 11))));
+}
+
+/// The sizes field of a part with length 10 and B = 0 in place of length 8.
+fn with_b(part: &[u8]) -> Vec<u8> {
+    [&[0x01, 0, 10], &part[3..11], &[0, 0], &part[11..]].concat()
+}
+
+/// "Length 8 means B = 0": the same sizes. The joined trace has the first part's field.
+#[test]
+fn sizes_of_both_lengths_are_equal() -> Result<(), Unjoined> {
+    let (first, second, whole) = (steps(&[1, 3]), steps(&[2]), steps(&[1, 2, 3]));
+    assert_eq!(join(&[&first, &with_b(&second)])?, whole);
+    assert_eq!(join(&[&with_b(&first), &second])?, with_b(&whole));
+    let board = part(Sizes { b: 1, ..SIZES }, &[(2, Event::Collect)]);
+    assert_eq!(unjoined(&[&first, &board]), (Refusal::SizesDiffer, 0, None));
+    assert_eq!(unjoined(&[&board, &with_b(&first)]), (Refusal::SizesDiffer, 0, None));
+    Ok(())
 }
 
 #[test]

@@ -1,5 +1,5 @@
-//! The safe type as its users see it: document 01's sample runs, refusals, and tables that come
-//! from elsewhere.
+//! The safe type as its users see it: document 01's sample runs, the board, refusals, and tables that
+//! come from elsewhere.
 
 use std::collections::BTreeSet;
 use std::error::Error;
@@ -7,7 +7,7 @@ use std::error::Error;
 use yuyarisun::{Collector, Event, Lent, Pool, Record, Refusal, Sizes, Tables};
 
 fn pool(n: u16, k: u16, w: u16, r: u16) -> Pool {
-    Pool::new(Sizes { n, k, w, r }).expect("the sizes are in range")
+    Pool::new(Sizes { n, k, w, r, b: 0 }).expect("the sizes are in range")
 }
 
 fn numbers(records: impl IntoIterator<Item = Record>) -> Vec<u16> {
@@ -68,7 +68,7 @@ fn makes_go_round() -> Result<(), Refusal> {
 
 #[test]
 fn the_last_made_number_is_a_records() -> Result<(), Refusal> {
-    let sizes = Sizes { n: 3, k: 1, w: 1, r: 1 };
+    let sizes = Sizes { n: 3, k: 1, w: 1, r: 1, b: 0 };
     let mut tables = Tables::zeros(sizes);
     tables.registers[1] = 3;
     let mut pool = Pool::from_tables(sizes, tables.clone(), Collector::default())?;
@@ -106,6 +106,65 @@ fn a_record_linked_to_itself_stays_used() -> Result<(), Refusal> {
     Ok(())
 }
 
+/// Worker 0 posts a record and drops it, worker 1 takes it off the board and keeps it, while cycles go
+/// by; once worker 1 drops it too, it is freed.
+#[test]
+fn a_record_is_passed_through_the_board() -> Result<(), Refusal> {
+    let mut pool = Pool::new(Sizes { n: 2, k: 1, w: 2, r: 2, b: 2 })?;
+    let frame = pool.make(0, 0)?;
+    assert_eq!(pool.post(0, 1, 0)?, None);
+    pool.drop_register(0, 0)?;
+    assert_eq!((cycle(&mut pool), cycle(&mut pool)), (vec![], vec![]));
+    assert_eq!((pool.look(1, 0, 0)?, pool.look(1, 0, 1)?), (None, Some(frame)));
+    assert_eq!(pool.post(1, 1, 1)?, Some(frame));
+    assert_eq!((cycle(&mut pool), cycle(&mut pool)), (vec![], vec![]));
+    pool.drop_register(1, 0)?;
+    assert_eq!(cycle(&mut pool), [frame.number()]);
+    Ok(())
+}
+
+/// The entries stand behind the records' links, in every table that has a place for each link.
+#[test]
+fn a_board_entry_is_a_link() -> Result<(), Refusal> {
+    let mut pool = Pool::new(Sizes { n: 2, k: 2, w: 1, r: 1, b: 3 })?;
+    assert_eq!(pool.sizes().links(), 7);
+    pool.make(0, 0)?;
+    pool.post(0, 2, 0)?;
+    pool.post(0, 2, 0)?;
+    let tables = pool.tables();
+    assert_eq!(
+        (&tables.values[..], &tables.changed[..]),
+        (&[0, 0, 0, 0, 0, 0, 1][..], &[0, 0, 0, 0, 0, 0, 1][..])
+    );
+    assert_eq!((&tables.logs[..3], &tables.lengths[..]), (&[6, 0, 0][..], &[1, 0][..]));
+    assert_eq!((tables.logs.len(), tables.history.len()), (14, 14));
+    Ok(())
+}
+
+#[test]
+fn a_board_entry_that_is_not_there_is_refused() {
+    let mut pool = Pool::new(Sizes { n: 1, k: 1, w: 1, r: 1, b: 2 }).unwrap();
+    let before = pool.clone();
+    assert_eq!(
+        (pool.look(0, 0, 2), pool.post(0, 255, 0)),
+        (Err(Refusal::NoSuchLink), Err(Refusal::NoSuchLink))
+    );
+    assert_eq!(
+        (pool.look(0, 1, 2), pool.post(0, 2, 1)),
+        (Err(Refusal::NoSuchRegister), Err(Refusal::NoSuchRegister))
+    );
+    assert_eq!(
+        (pool.look(1, 1, 2), pool.post(1, 2, 1)),
+        (Err(Refusal::NoSuchWorker), Err(Refusal::NoSuchWorker))
+    );
+    assert_eq!(pool, before);
+    let mut without = self::pool(1, 1, 1, 1);
+    assert_eq!(
+        (without.look(0, 0, 0), without.post(0, 0, 0)),
+        (Err(Refusal::NoSuchLink), Err(Refusal::NoSuchLink))
+    );
+}
+
 #[test]
 fn a_refused_event_changes_nothing() {
     let mut pool = pool(2, 1, 1, 2);
@@ -138,7 +197,8 @@ fn sizes_out_of_range_are_refused_before_anything_is_allocated() {
         Sizes { k: 9, ..Sizes::LARGEST },
         Sizes { w: 9, ..Sizes::LARGEST },
         Sizes { r: 17, ..Sizes::LARGEST },
-        Sizes { n: u16::MAX, k: u16::MAX, w: u16::MAX, r: u16::MAX },
+        Sizes { b: 17, ..Sizes::LARGEST },
+        Sizes { n: u16::MAX, k: u16::MAX, w: u16::MAX, r: u16::MAX, b: u16::MAX },
     ] {
         assert!(!wrong.in_range());
         assert_eq!(Pool::new(wrong), Err(Refusal::WrongSize));
@@ -176,7 +236,7 @@ fn tables_are_put_away_and_taken_up_again() -> Result<(), Refusal> {
 
 #[test]
 fn lent_tables_are_checked_at_every_call() {
-    let sizes = Sizes { n: 4, k: 1, w: 1, r: 1 };
+    let sizes = Sizes { n: 4, k: 1, w: 1, r: 1, b: 0 };
     let zeros = Tables::zeros(sizes);
     let mut lent =
         Lent { sizes, tables: zeros.clone(), collector: Collector { phase: 3, ..Collector::default() } };

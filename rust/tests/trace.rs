@@ -9,7 +9,7 @@ use yuyarisun::{
 
 const MAKE: Event = Event::Make { w: 0, r: 0 };
 const DROP: Event = Event::Drop { w: 0, r: 0 };
-const SIZES: Sizes = Sizes { n: 2, k: 1, w: 1, r: 1 };
+const SIZES: Sizes = Sizes { n: 2, k: 1, w: 1, r: 1, b: 0 };
 
 fn fields(events: &[Event]) -> Vec<u8> {
     let mut bytes = Vec::new();
@@ -49,6 +49,8 @@ fn fields_are_the_documents() {
         (Event::Load { w: 1, r: 2, q: 3, f: 4 }, vec![0x13, 0, 8, 0, 0, 0, 1, 1, 2, 3, 4]),
         (Event::Store { w: 1, q: 2, f: 3, r: 4 }, vec![0x14, 0, 8, 0, 0, 0, 1, 1, 2, 3, 4]),
         (Event::Move { w: 1, r: 2, q: 3 }, vec![0x11, 0, 7, 0, 0, 0, 1, 1, 2, 3]),
+        (Event::Look { w: 1, r: 2, e: 3 }, vec![0x15, 0, 7, 0, 0, 0, 1, 1, 2, 3]),
+        (Event::Post { w: 1, e: 2, r: 3 }, vec![0x16, 0, 7, 0, 0, 0, 1, 1, 2, 3]),
     ];
     others.into_iter().for_each(|(event, expected)| assert_eq!(fields(&[event]), expected));
 }
@@ -72,6 +74,29 @@ fn the_whole_case() {
     assert_eq!(answers, replayed.answers);
     assert!(numbers[18..].iter().all(|number| *number == 9));
     assert!(lent.is_sound());
+}
+
+/// "The sizes field with length 10 carries B at its end; length 8 means B = 0" (document 02, request 5).
+#[test]
+fn sizes_of_both_lengths() {
+    let short = whole_case();
+    let long = [&[0x01, 0, 10], &short[3..11], &[0, 0], &short[11..]].concat();
+    assert_eq!(replay(&long), replay(&short));
+    assert_eq!(Sizes::of_trace(&long), Sizes::of_trace(&short));
+
+    let board = Sizes { b: 1, ..SIZES };
+    let events = [MAKE, Event::Post { w: 0, e: 0, r: 0 }, DROP, Event::Look { w: 0, r: 0, e: 0 }];
+    let replayed = replay(&trace(board, &events));
+    assert_eq!(replayed.to_string(), "1 0 1\n2 0 0\n3 0 0\n4 0 1\nend 1 0\n");
+    assert_eq!(replayed.ending.unwrap().sizes(), board);
+
+    let mut other = long;
+    other[2] = 9;
+    assert_eq!(replay(&other).to_string(), "refused 8 0\n");
+    other[2] = 10;
+    other[12] = 17;
+    assert_eq!(replay(&other).to_string(), "refused 1 0\n");
+    assert_eq!(replay(&other[..12]).to_string(), "refused 9 0\n");
 }
 
 #[test]
@@ -145,6 +170,21 @@ fn tables_of_other_lengths_are_not_touched_by_a_trace() {
     let stop = Stop { refusal: Refusal::WrongSize, place: 0, events: 0 };
     assert_eq!(lent.trace(&bytes, &mut []), Err(stop));
     assert_eq!(lent, before);
+}
+
+/// Tables of the same lengths may be those of another K and B: the sizes become the trace's.
+#[test]
+fn a_trace_brings_its_sizes() {
+    let (laid_out, said) = (Sizes { k: 2, ..SIZES }, Sizes { b: 2, ..SIZES });
+    let mut lent = lent(laid_out);
+    assert_eq!(lent.trace(&trace(said, &[MAKE]), &mut []), Ok(Whole { events: 1, free: 1 }));
+    assert_eq!((lent.sizes, lent.is_sound()), (said, true));
+    let cut = &trace(laid_out, &[MAKE])[..15];
+    assert_eq!(lent.trace(cut, &mut []).unwrap_err().place, 11);
+    assert_eq!((lent.sizes, lent.is_sound()), (laid_out, true));
+    let refused = trace(Sizes { n: 3, ..SIZES }, &[]);
+    assert_eq!(lent.trace(&refused, &mut []).unwrap_err().refusal, Refusal::WrongSize);
+    assert_eq!(lent.sizes, laid_out);
 }
 
 #[test]

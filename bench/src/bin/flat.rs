@@ -4,7 +4,7 @@
 use bench::flat::Pool;
 use std::io::{self, Read, StdinLock, StdoutLock, Write};
 
-type Small = Pool<64, 4, 4, 8>;
+type Small = Pool<64, 4, 4, 8, 8>;
 
 const INPUT: usize = 1 << 16;
 const OUTPUT: usize = 1 << 16;
@@ -153,30 +153,32 @@ fn four_bytes(bytes: &[u8]) -> u32 {
 }
 
 fn sizes(input: &mut Input) -> io::Result<Result<Small, u16>> {
-    let there = input.there(11)?;
-    let field = &input.buffer[input.at..input.at + there.min(11)];
+    let there = input.there(13)?;
+    let field = &input.buffer[input.at..input.at + there.min(13)];
     if there < 3 {
         return Ok(Err(9));
     }
     if field[0] != 1 {
         return Ok(Err(7));
     }
-    if two_bytes(&field[1..]) != 8 {
+    let long = two_bytes(&field[1..]);
+    if long != 8 && long != 10 {
         return Ok(Err(8));
     }
-    if there < 11 {
+    if there < 3 + long {
         return Ok(Err(9));
     }
     let size = |i: usize| two_bytes(&field[3 + 2 * i..]);
-    let pool = Small::fresh(size(0), size(1), size(2), size(3));
-    input.at += 11;
+    let board = if long == 10 { size(4) } else { 0 };
+    let pool = Small::fresh(size(0), size(1), size(2), size(3), board);
+    input.at += 3 + long;
     Ok(pool.ok_or(1))
 }
 
 fn payload_of(tag: u8) -> usize {
     match tag {
         0x10 | 0x12 => 6,
-        0x11 => 7,
+        0x11 | 0x15 | 0x16 => 7,
         0x13 | 0x14 => 8,
         0x20 | 0x7F => 4,
         _ => 0,

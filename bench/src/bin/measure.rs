@@ -211,12 +211,13 @@ impl Bench {
     /// largest pool.
     fn pool_events(&mut self) -> Done {
         for (kind, collects) in KINDS {
-            let mut maker = Box::new(Maker::<1024, 8, 8, 16>::new(SEED, collects));
+            let mut maker = Box::new(Maker::<1024, 8, 8, 16, 16>::new(SEED, collects));
             let numbers: Vec<made::Event> =
                 iter::repeat_with(|| maker.next()).take(self.scale.call_events).collect();
             let events: Vec<Event> = numbers.iter().map(event_of).collect();
-            let fresh =
-                Box::new(flat::Pool::<1024, 8, 8, 16>::fresh(1024, 8, 8, 16).ok_or("the largest sizes")?);
+            let fresh = Box::new(
+                flat::Pool::<1024, 8, 8, 16, 16>::fresh(1024, 8, 8, 16, 16).ok_or("the largest sizes")?,
+            );
             let (mut pool, mut flat) = (Pool::new(LARGEST)?, fresh.clone());
             for (event, [tag, a, b, c, d]) in events.iter().zip(numbers.iter().copied()) {
                 if in_numbers(pool.event(*event)) != flat.event(tag, a, b, c, d) {
@@ -380,6 +381,8 @@ fn event_of(&[tag, a, b, c, d]: &made::Event) -> Event {
         0x12 => Event::Drop { w: a, r: b },
         0x13 => Event::Load { w: a, r: b, q: c, f: d },
         0x14 => Event::Store { w: a, q: b, f: c, r: d },
+        0x15 => Event::Look { w: a, r: b, e: c },
+        0x16 => Event::Post { w: a, e: b, r: c },
         _ => Event::Collect,
     }
 }
@@ -412,7 +415,7 @@ fn agree(pool: &Lent) -> Done {
     for (i, table) in tables.into_iter().enumerate() {
         let length = table(&mut damaged).len();
         for place in [0, length / 2, length - 1] {
-            for number in [0, 1, 2, 1025, 8192, u16::MAX] {
+            for number in [0, 1, 2, 1025, LARGEST.links() as u16, u16::MAX] {
                 let before = std::mem::replace(&mut table(&mut damaged)[place], number);
                 if damaged.is_sound() != check::sound(&damaged) {
                     return Err(

@@ -1,4 +1,4 @@
-//! The calls that callgrind counts one by one, for a pool of N records with the largest K, W and R:
+//! The calls that callgrind counts one by one, for a pool of N records with the largest K, W, R and B:
 //!
 //!     single steps N      each event and each phase at its longest, through the inner call
 //!     single checked N    each phase, through the checked call
@@ -56,7 +56,7 @@ fn main() {
         eprintln!("usage: single steps|checked|check N");
         exit(2);
     };
-    let sizes = Sizes { n, k: 8, w: 8, r: 16 };
+    let sizes = Sizes { n, k: 8, w: 8, r: 16, b: 16 };
     match mode.as_str() {
         "steps" => steps(situation::all(sizes), inner),
         "checked" => steps(situation::collects(sizes), checked),

@@ -1,6 +1,6 @@
 -- What is noted of each link after a list of entries.
 --     raised                           a table of which one number rises
---     Sized, sized-entered             there are 8,192 places, before and after
+--     Sized, sized-entered             there are 8,208 places, before and after
 --     entered-tells                    every entry is in range
 --     seen-entered                     what was seen of a link rises with each of its entries
 --     last-entered                     the last that is noted of a link is the old value of its one entry
@@ -45,8 +45,8 @@ raised xs i by j h =
 -- ---- entries
 
 pub record Sized (x : Noted) : Type 0 where
-  pub seen : length (x .seen) ≡ 8192
-  pub last : length (x .last) ≡ 8192
+  pub seen : length (x .seen) ≡ 8208
+  pub last : length (x .last) ≡ 8208
 
 module _ (s : Sizes) (by : ℕ) where
   abbrev enter : List Entry → Noted → Noted
@@ -73,8 +73,8 @@ module _ (s : Sizes) (by : ℕ) where
 
   -- ---- entries in range, each of which has its own place
 
-  module _ (low : links s ≤ 8192) (l : LinkNumber) where
-    own-place : (e : Entry) → EntryInRange s e → e .link .0 % 8192 ≡ e .link .0
+  module _ (low : links s ≤ 8208) (l : LinkNumber) where
+    own-place : (e : Entry) → EntryInRange s e → e .link .0 % 8208 ≡ e .link .0
     own-place e h = mod-eq-of-lt (omega (arith, h .link))
 
     pub seen-entered : (xs : List Entry) (x : Noted) → Sized x → Each (EntryInRange s) xs
@@ -83,7 +83,7 @@ module _ (s : Sizes) (by : ℕ) where
     seen-entered [] x h range = omega arith
     seen-entered (e ∷ xs) x h range =
         seen-entered xs (enter-one e x) (sized-one e x h) (range .1)
-        ∙ omega (arith, raised (x .seen) (e .link .0 % 8192) by l.0 (omega arith), ap (λ (i : ℕ). bit (eqb i l.0) * by) (own-place e (range .0)))
+        ∙ omega (arith, raised (x .seen) (e .link .0 % 8208) by l.0 (omega arith), ap (λ (i : ℕ). bit (eqb i l.0) * by) (own-place e (range .0)))
 
     pub last-entered : (xs : List Entry) (x : Noted) → Sized x → Each (EntryInRange s) xs → times l xs ≤ 1
         → recordNumber (getD (enter xs x .last) l.0 0) ≡ oldIn l xs (recordNumber (getD (x .last) l.0 0))
@@ -103,7 +103,7 @@ module _ (s : Sizes) (by : ℕ) where
         (eqb-cases (e .link .0) l.0)
       where
         place : ℕ
-        place = e .link .0 % 8192
+        place = e .link .0 % 8208
 
         own : place ≡ e .link .0
         own = own-place e (range .0)
@@ -118,7 +118,7 @@ module _ (records : ℕ) (values : List ℕ) (x : Noted) where
   unfolding valued
   valued-tells h = h and every-tells (λ n. most-tells n records) values
 
-  pub sized-valued : length values ≤ 8192 → Sized x → Sized (valued records values x)
+  pub sized-valued : length values ≤ 8208 → Sized x → Sized (valued records values x)
   unfolding valued
   sized-valued low h =
       record { seen = h .seen; last = length-paste (x .last) 0 values (length values) (omega (arith, h .last)) (omega arith) ∙ h .last }

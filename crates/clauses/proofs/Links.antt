@@ -75,7 +75,7 @@ module _ (s : Sizes) (t : Tables) (c : Collector) (sizes : inRange s ≡ true) (
   abbrev tallies : List ℕ
   tallies = tallied (noted-all .last) (links s) (replicate 8320 0)
 
-  low : links s ≤ 8192
+  low : links s ≤ 8208
   low = links-most s sizes
 
   module _ (lengths : Each (λ n. n ≤ links s) (t .lengths)) (fits : FitsPhase s (p .history) (c .phase) (c .position)) where

@@ -38,7 +38,7 @@ module _ (s : Sizes) (history : List Entry) (to from : ℕ) (logs : List Entry) 
   uncleared = drop from history
 
   abbrev start : Noted
-  start = record { ok = true; seen = replicate 8192 0; last = replicate 8192 0 }
+  start = record { ok = true; seen = replicate 8208 0; last = replicate 8208 0 }
 
   abbrev after-counted : Noted
   after-counted = enteredAll (links s) (s .n) once counted start
@@ -94,12 +94,12 @@ module _ (s : Sizes) (history : List Entry) (to from : ℕ) (logs : List Entry) 
 
     -- ---- entries in range
 
-    module _ (low : links s ≤ 8192) (exact : length values ≡ links s) (range : Each (EntryInRange s) history × Each (EntryInRange s) logs) (l : LinkNumber) (k : l .0 < links s) where
+    module _ (low : links s ≤ 8208) (exact : length values ≡ links s) (range : Each (EntryInRange s) history × Each (EntryInRange s) logs) (l : LinkNumber) (k : l .0 < links s) where
       parts : Each (EntryInRange s) counted × Each (EntryInRange s) middle × Each (EntryInRange s) uncleared
       parts = apart (EntryInRange s) (range .0)
 
       sized-start : Sized start
-      sized-start = record { seen = length-replicate {A = ℕ} 8192 0; last = length-replicate {A = ℕ} 8192 0 }
+      sized-start = record { seen = length-replicate {A = ℕ} 8208 0; last = length-replicate {A = ℕ} 8208 0 }
 
       sized-values : Sized after-values
       sized-values = sized-valued (s .n) values after-counted (omega arith) (sized-entered s once counted start sized-start)
@@ -119,7 +119,7 @@ module _ (s : Sizes) (history : List Entry) (to from : ℕ) (logs : List Entry) 
             seen-entered s once low l middle after-logs sized-logs (parts .1),
             seen-entered s 1 low l logs after-values sized-values (range .1),
             seen-entered s once low l counted start sized-start (parts .0),
-            getD-replicate {A = ℕ} 8192 l.0 0 0 (omega arith),
+            getD-replicate {A = ℕ} 8208 l.0 0 0 (omega arith),
             times-append l counted (middle ++ uncleared),
             times-append l middle uncleared,
             ap (times l) whole,

@@ -1,4 +1,4 @@
--- What the check notes of each link, entry by entry. There is a place for each of 8,192 links, the most that a pool has; a number past them falls on the
+-- What the check notes of each link, entry by entry. There is a place for each of 8,208 links, the most that a pool has; a number past them falls on the
 -- place of another, and then the test has failed.
 --     Noted                  what is noted so far
 --     entered, enteredAll    an entry is noted, and a list of entries
@@ -35,7 +35,7 @@ outstanding = 131073
 
 unfoldable pub entered : (links records by : ℕ) → Entry → Noted → Noted
 entered links records by e x =
-    let place : ℕ = e .link .0 % 8192 in
+    let place : ℕ = e .link .0 % 8208 in
     record {
       ok = x .ok && ltb (e .link .0) links && leb (e .old .0) records;
       seen = set (x .seen) place (getD (x .seen) place 0 + by);

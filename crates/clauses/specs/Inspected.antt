@@ -61,7 +61,7 @@ notedLinks s t c =
     (enter once (drop to (take from history))
     (enter 1 (flatten (logsIn s (t .logs) (t .lengths)))
     (valued (s .n) (t .values)
-    (enter once (take to history) (record { ok = true; seen = replicate 8192 0; last = replicate 8192 0 })))))
+    (enter once (take to history) (record { ok = true; seen = replicate 8208 0; last = replicate 8208 0 })))))
 
 unfoldable pub marksMatch : List ℕ → List ℕ → Bool
 marksMatch changed seen =

@@ -49,7 +49,7 @@ pub record Ready (s : Sizes) (t : Tables) (c : Collector) (w i : ℕ) : Type 0 w
   pub lengths : w < length (t .lengths)
   pub history : getD (t .lengths) w 0 * 2 ≤ length (t .history)
   pub entry : i * 2 + 1 < length (t .history)
-  pub position : c .position < 8192
+  pub position : c .position < 8208
   -- the count that falls
   pub old : entryIn (t .history) i .old .0 ≤ length (t .counts)
   pub candidates : length (t .candidates) ≡ length (t .counts)
@@ -99,7 +99,7 @@ module _ {s : Sizes} {t : Tables} {c : Collector} (known : Known s t c) (phase :
   ready =
       let exact = known .exact in
       let few : getD (t .lengths) w 0 ≤ links s = length-known known w (omega arith) in
-      let most : links s ≤ 8192 = links-most s (known .sizes) in
+      let most : links s ≤ 8208 = links-most s (known .sizes) in
       let v : ℕ = viewValue p (here .link) .0 in
       let low : v ≤ s .n = view-low (core sound) (here .link) in
       record {

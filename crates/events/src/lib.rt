@@ -15,8 +15,10 @@ use rules::Event;
 use rules::Sizes;
 use worker::drops;
 use worker::loads;
+use worker::looks;
 use worker::makes;
 use worker::moves;
+use worker::posts;
 use worker::stores;
 ghost use mathlib.Core.Path.{_≡_};
 ghost use Rattle.tables.specs.Tables.{lent};
@@ -118,6 +120,26 @@ pub fn event_known(
                 w,
                 q,
                 f,
+                r,
+            ),
+            collector: c,
+        },
+        Event::Look { w, r, e } => Answered {
+            answer: looks(s, values, registers, w, r, e),
+            collector: c,
+        },
+        Event::Post { w, e, r } => Answered {
+            answer: posts(
+                s,
+                held,
+                values,
+                changed,
+                registers,
+                snoops,
+                logs,
+                lengths,
+                w,
+                e,
                 r,
             ),
             collector: c,

@@ -22,7 +22,7 @@ use Rattle.fields.specs.declared.Stage.the-variants.{First, Events, Ende
 use Rattle.fields.specs.declared.Reader.{Reader}
 use Rattle.fields.specs.declared.Field.the-variants as field
 use Rattle.fields.specs.declared.Read.{Read}
-use Rattle.fields.specs.Field.{byteAt, fourAt, sizesTag, endTag, payloadOf, sizesAt, eventAt, refusals, refusedAt, decide, taken, behindEnd, fieldAt, readAt}
+use Rattle.fields.specs.Field.{byteAt, fourAt, sizesTag, endTag, payloadOf, payloadAt, sizesAt, eventAt, refusals, refusedAt, decide, taken, behindEnd, fieldAt, readAt}
 use Rattle.fields.specs.Part.{isTaken}
 use Rattle.fields.proofs.Taken.{TakenAt, taken-at}
 
@@ -79,7 +79,7 @@ module _ (bytes : List ℕ) (place step : ℕ) where
   at-first passed =
       let sizes : eqb tag sizesTag ≡ true = not-false _ (or-right (eqb (payloadOf tag) 0) _ (passed .1 .0)) in
       let range = not-false _ (rw sizes at (passed .1 .1 .1 .1 .0)) in
-      rw sizes (λ lies. the-sizes (sizesAt bytes i) (i + payloadOf tag) range (lies refl))
+      rw sizes (λ lies. the-sizes (sizesAt bytes i (payloadAt bytes place)) (i + payloadAt bytes place) range (lies refl))
 
   at-events : Unrefused (refusals bytes place (readerAt Events step)) → Shown Events (taken bytes place (readerAt Events step))
   unfolding taken refusals tag i
@@ -89,10 +89,10 @@ module _ (bytes : List ℕ) (place step : ℕ) where
       other = or-right (eqb (payloadOf tag) 0) _ (passed .1 .0)
 
       by-end : (b : Bool) → eqb tag endTag ≡ b → Shown Events (taken bytes place (readerAt Events step))
-      by-end true e = rw (other, e) (λ lies. the-end (i + payloadOf tag) (lies refl))
+      by-end true e = rw (other, e) (λ lies. the-end (i + payloadAt bytes place) (lies refl))
       by-end false e =
           let follows = eqb-true (fourAt bytes i) (step + 1) (not-false _ (rw (other, e) at (passed .1 .1 .1 .1 .0))) in
-          rw (other, e, follows, add-one) (λ lies. an-event (eventAt tag bytes (i + 4)) (i + payloadOf tag) (lies refl))
+          rw (other, e, follows, add-one) (λ lies. an-event (eventAt tag bytes (i + 4)) (i + payloadAt bytes place) (lies refl))
 
   by-stage : (stage : Stage) → Shown stage (readAt bytes place (readerAt stage step))
   unfolding readAt fieldAt behindEnd

@@ -17,8 +17,9 @@ use Rattle.fields.specs.declared.Stage.the-variants.{Events}
 use Rattle.fields.specs.declared.Reader.{Reader}
 use Rattle.fields.specs.declared.Field.the-variants as field
 use Rattle.fields.specs.declared.Read.{Read}
-use Rattle.fields.specs.Field.{byteAt, twoAt, fourAt, sizesTag, endTag, payloadOf, eventAt, refusals, taken, readAt, EventSized}
+use Rattle.fields.specs.Field.{byteAt, twoAt, fourAt, sizesTag, endTag, payloadOf, payloadAt, eventAt, refusals, taken, readAt, EventSized}
 use Rattle.fields.specs.Part.{isTaken}
+use Rattle.fields.proofs.Tags.{other-payload}
 use Rattle.fields.proofs.Order.{Headed, payload-whole, before-end}
 use Rattle.fields.proofs.Payload.{event-read}
 use Rattle.laws.proofs.Tests.{never, or-left}
@@ -59,13 +60,14 @@ module _ (bytes : List ℕ) (place step : ℕ) where
           absurd (let z : _≡_ {A = ℕ} 0 1 = cc in omega arith)
       by-tag false isSizes false isEnd passed n e h =
           let test = rw (isSizes, isEnd) at (passed .1 .1 .1 .1 .0) in
+          let same = other-payload tag (twoAt bytes (place + 1)) (eqb-false tag sizesTag isSizes) in
           record {
             begins = ltb-false (length bytes) (place + 3) (passed .0);
             known = eqb-false (payloadOf tag) 0 (or-left _ (eqb tag sizesTag) (passed .1 .0));
             no-sizes = eqb-false tag sizesTag isSizes;
             no-end = eqb-false tag endTag isEnd;
-            long = eqb-true (twoAt bytes (place + 1)) (payloadOf tag) (not-false _ (passed .1 .1 .0));
-            whole = ltb-false (length bytes) (place + 3 + payloadOf tag) (passed .1 .1 .1 .0);
+            long = eqb-true (twoAt bytes (place + 1)) (payloadAt bytes place) (not-false _ (passed .1 .1 .0)) ∙ same;
+            whole = omega (arith, ltb-false (length bytes) (place + 3 + payloadAt bytes place) (passed .1 .1 .1 .0), same);
             next = eqb-true (fourAt bytes (place + 3)) (step + 1) (not-false _ test);
           }
 
@@ -90,17 +92,20 @@ module _ (bytes : List ℕ) (place step : ℕ) where
       let from : place + 7 ≡ place + 3 + 4 = omega arith in
       sym
       (ap behind on
-      ∙ event-read bytes place reader false length-is (says .no-sizes) (sym (says .next)) (says .no-end) (ap (eventAt tag bytes) from)
+      ∙ event-read bytes place reader false says-so (says .no-sizes) (sym (says .next)) (says .no-end) (ap (eventAt tag bytes) from)
       (ap not (eq-eqb (step + 1) (step + 1) refl))
       ∙ payload-whole head (omega (arith, length-is, says .whole))
       ∙ before-end bytes place reader (λ e. let z : _≡_ {A = ℕ} 0 1 = cc in omega arith))
     where
+      says-so : payload ≡ payloadAt bytes place
+      says-so = length-is ∙ sym (other-payload tag (twoAt bytes (place + 1)) (says .no-sizes))
+
       head : Headed bytes place reader payload
       head =
           record {
             begins = says .begins;
-            says = length-is;
-            known = λ none. says .known (sym length-is ∙ none);
+            says = says-so;
+            known = says .known;
             placed = ne-eqb tag sizesTag (says .no-sizes);
             long = says .long ∙ sym length-is;
           }

@@ -20,13 +20,13 @@ use Rattle.fields.specs.declared.Stage.the-variants.{First, Events, Ende
 use Rattle.fields.specs.declared.Reader.{Reader}
 use Rattle.fields.specs.declared.Field.the-variants as field
 use Rattle.fields.specs.declared.Read.{Read}
-use Rattle.fields.specs.Field.{byteAt, twoAt, payloadOf, misplaced, refusals, refusedAt, decide, takenOrNot, fieldAt, behindEnd, readAt}
+use Rattle.fields.specs.Field.{byteAt, twoAt, payloadOf, payloadAt, misplaced, refusals, refusedAt, decide, takenOrNot, fieldAt, behindEnd, readAt}
 
 -- the first three bytes of a field are there, and no test on them refuses it
 pub record Headed (bytes : List ℕ) (place : ℕ) (reader : Reader) (payload : ℕ) : Type 0 where
   pub begins : place + 3 ≤ length bytes
-  pub says : payload ≡ payloadOf (byteAt bytes place)
-  pub known : payload ≡ 0 → ⊥
+  pub says : payload ≡ payloadAt bytes place
+  pub known : payloadOf (byteAt bytes place) ≡ 0 → ⊥
   pub placed : misplaced (reader .stage) (byteAt bytes place) ≡ false
   pub long : twoAt bytes (place + 1) ≡ payload
 
@@ -38,7 +38,7 @@ module _ {bytes : List ℕ} {place : ℕ} {reader : Reader} {payload : ℕ} (hea
       rw (
         ← (head .says),
         le-ltb (length bytes) (place + 3) (head .begins),
-        ne-eqb payload 0 (head .known),
+        ne-eqb (payloadOf (byteAt bytes place)) 0 (head .known),
         head .placed,
         eq-eqb (twoAt bytes (place + 1)) payload (head .long),
         test,
@@ -55,21 +55,26 @@ module _ (bytes : List ℕ) (place : ℕ) (reader : Reader) where
   unfolding fieldAt refusals decide
   stops-short few = rw (lt-ltb (length bytes) (place + 3) few)
 
-  module _ {payload : ℕ} (begins : place + 3 ≤ length bytes) (says : payload ≡ payloadOf (byteAt bytes place)) where
-    pub tag-unknown : payload ≡ 0 → refusedAt WrongTag place reader ≡ fieldAt bytes place reader
+  module _ (begins : place + 3 ≤ length bytes) where
+    pub tag-unknown : payloadOf (byteAt bytes place) ≡ 0 → refusedAt WrongTag place reader ≡ fieldAt bytes place reader
     unfolding fieldAt refusals decide
-    tag-unknown none = rw (← says, le-ltb (length bytes) (place + 3) begins, eq-eqb payload 0 none)
+    tag-unknown none = rw (le-ltb (length bytes) (place + 3) begins, eq-eqb (payloadOf (byteAt bytes place)) 0 none)
 
-    pub tag-misplaced : (payload ≡ 0 → ⊥) → misplaced (reader .stage) (byteAt bytes place) ≡ true
+    pub tag-misplaced : (payloadOf (byteAt bytes place) ≡ 0 → ⊥) → misplaced (reader .stage) (byteAt bytes place) ≡ true
         → refusedAt WrongTag place reader ≡ fieldAt bytes place reader
     unfolding fieldAt refusals decide
-    tag-misplaced known wrong = rw (← says, le-ltb (length bytes) (place + 3) begins, ne-eqb payload 0 known, wrong)
+    tag-misplaced known wrong = rw (le-ltb (length bytes) (place + 3) begins, ne-eqb (payloadOf (byteAt bytes place)) 0 known, wrong)
 
-    pub length-wrong : (payload ≡ 0 → ⊥) → misplaced (reader .stage) (byteAt bytes place) ≡ false → (twoAt bytes (place + 1) ≡ payload → ⊥)
+    pub length-wrong : (payloadOf (byteAt bytes place) ≡ 0 → ⊥) → misplaced (reader .stage) (byteAt bytes place) ≡ false → (twoAt bytes (place + 1) ≡ payloadAt bytes place → ⊥)
         → refusedAt WrongLength place reader ≡ fieldAt bytes place reader
     unfolding fieldAt refusals decide
     length-wrong known placed other =
-        rw (← says, le-ltb (length bytes) (place + 3) begins, ne-eqb payload 0 known, placed, ne-eqb (twoAt bytes (place + 1)) payload other)
+        rw (
+          le-ltb (length bytes) (place + 3) begins,
+          ne-eqb (payloadOf (byteAt bytes place)) 0 known,
+          placed,
+          ne-eqb (twoAt bytes (place + 1)) (payloadAt bytes place) other,
+        )
 
   abbrev pub at-stage : Stage → Read
   at-stage stage = elim stage [ First ↦ fieldAt bytes place reader | Events ↦ fieldAt bytes place reader | Ended ↦ behindEnd bytes place reader ]

@@ -19,7 +19,7 @@ use Rattle.fields.specs.declared.Stage.{Stage}
 use Rattle.fields.specs.declared.Stage.the-variants.{First, Events, Ended}
 use Rattle.fields.specs.declared.Reader.{Reader}
 use Rattle.fields.specs.declared.Read.{Read}
-use Rattle.fields.specs.Field.{byteAt, twoAt, fourAt, sizesTag, endTag, payloadOf, sizesAt, eventAt, refusals, refusedAt, decide, taken, behindEnd, fieldAt, readAt}
+use Rattle.fields.specs.Field.{byteAt, twoAt, fourAt, sizesTag, endTag, payloadAt, boardAt, sizesAt, eventAt, refusals, refusedAt, decide, taken, behindEnd, fieldAt, readAt}
 use Rattle.fields.specs.Part.{longest, moved}
 use Rattle.fields.proofs.Tags.{payload-most}
 use Rattle.fields.proofs.Order.{at-stage}
@@ -45,13 +45,20 @@ module _ {bytes : List ℕ} {n : ℕ} {part : List ℕ} {i : ℕ} (alike : Alike
   tag-alike : byteAt bytes (n + i) ≡ byteAt part i
   tag-alike = alike .byte (n + i) i refl (omega arith) (omega arith)
 
-  sizes-alike : sizesAt bytes (n + i + 3) ≡ sizesAt part (i + 3)
-  sizes-alike =
+  long-alike : twoAt bytes (n + i + 1) ≡ twoAt part (i + 1)
+  long-alike = two-alike (n + i + 1) (i + 1) (omega arith) (omega arith) (omega arith)
+
+  board-alike : (payload : ℕ) → boardAt bytes (n + i + 3) payload ≡ boardAt part (i + 3) payload
+  board-alike payload = ap (λ (b : ℕ). cond (eqb payload 10) b 0) (two-alike (n + i + 3 + 8) (i + 3 + 8) (omega arith) (omega arith) (omega arith))
+
+  sizes-alike : (payload : ℕ) → sizesAt bytes (n + i + 3) payload ≡ sizesAt part (i + 3) payload
+  sizes-alike payload =
       λ j. record {
         n = two-alike (n + i + 3) (i + 3) (omega arith) (omega arith) (omega arith) j;
         k = two-alike (n + i + 3 + 2) (i + 3 + 2) (omega arith) (omega arith) (omega arith) j;
         w = two-alike (n + i + 3 + 4) (i + 3 + 4) (omega arith) (omega arith) (omega arith) j;
         r = two-alike (n + i + 3 + 6) (i + 3 + 6) (omega arith) (omega arith) (omega arith) j;
+        b = board-alike payload j;
       }
 
   event-alike : (tag : ℕ) → eventAt tag bytes (n + i + 3 + 4) ≡ eventAt tag part (i + 3 + 4)
@@ -67,9 +74,9 @@ module _ {bytes : List ℕ} {n : ℕ} {part : List ℕ} {i : ℕ} (alike : Alike
       rw (
         tag-alike,
         alike .ends (n + i + 3) (i + 3) (omega arith) (omega arith),
-        two-alike (n + i + 1) (i + 1) (omega arith) (omega arith) (omega arith),
-        alike .ends (n + i + 3 + payloadOf (byteAt part i)) (i + 3 + payloadOf (byteAt part i)) (omega arith) (omega (arith, payload-most (byteAt part i))),
-        sizes-alike,
+        long-alike,
+        alike .ends (n + i + 3 + payloadAt part i) (i + 3 + payloadAt part i) (omega arith) (omega (arith, payload-most (byteAt part i) (twoAt part (i + 1)))),
+        sizes-alike (payloadAt part i),
         four-alike (n + i + 3) (i + 3) (omega arith) (omega arith) (omega arith),
       )
 
@@ -80,13 +87,13 @@ module _ {bytes : List ℕ} {n : ℕ} {part : List ℕ} {i : ℕ} (alike : Alike
       tag : ℕ
       tag = byteAt part i
 
-      next : n + i + 3 + payloadOf tag ≡ n + (i + 3 + payloadOf tag)
+      next : n + i + 3 + payloadAt part i ≡ n + (i + 3 + payloadAt part i)
       next = omega arith
 
       by-tag : (x : Bool) → eqb tag sizesTag ≡ x → (y : Bool) → eqb tag endTag ≡ y → taken bytes (n + i) reader ≡ moved n (taken part i reader)
-      by-tag true isSizes y isEnd = rw (tag-alike, isSizes, sizes-alike, next)
-      by-tag false isSizes true isEnd = rw (tag-alike, isSizes, isEnd, next)
-      by-tag false isSizes false isEnd = rw (tag-alike, isSizes, isEnd, four-alike (n + i + 3) (i + 3) (omega arith) (omega arith) (omega arith), event-alike tag, next)
+      by-tag true isSizes y isEnd = rw (tag-alike, long-alike, isSizes, sizes-alike (payloadAt part i), next)
+      by-tag false isSizes true isEnd = rw (tag-alike, long-alike, isSizes, isEnd, next)
+      by-tag false isSizes false isEnd = rw (tag-alike, long-alike, isSizes, isEnd, four-alike (n + i + 3) (i + 3) (omega arith) (omega arith) (omega arith), event-alike tag, next)
 
   decide-alike : (reader : Reader) (tests : List Test) (x : Read) → decide (n + i) reader tests (moved n x) ≡ moved n (decide i reader tests x)
   unfolding decide moved

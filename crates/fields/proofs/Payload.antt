@@ -18,17 +18,17 @@ use Rattle.fields.specs.declared.Stage.the-variants.{Events, Ended}
 use Rattle.fields.specs.declared.Reader.{Reader}
 use Rattle.fields.specs.declared.Field.the-variants as field
 use Rattle.fields.specs.declared.Read.{Read}
-use Rattle.fields.specs.Field.{byteAt, fourAt, sizesTag, endTag, payloadOf, sizesAt, eventAt, refusedAt, decide, taken, takenOrNot}
+use Rattle.fields.specs.Field.{byteAt, fourAt, sizesTag, endTag, payloadAt, sizesAt, eventAt, refusedAt, decide, taken, takenOrNot}
 
-module _ (bytes : List ℕ) (place : ℕ) (reader : Reader) {payload : ℕ} (b : Bool) (long : payload ≡ payloadOf (byteAt bytes place)) where
-  pub sizes-read : {s : Sizes} {fits : Bool} → byteAt bytes place ≡ sizesTag → s ≡ sizesAt bytes (place + 3) → fits ≡ inRange s → not fits ≡ b
+module _ (bytes : List ℕ) (place : ℕ) (reader : Reader) {payload : ℕ} (b : Bool) (long : payload ≡ payloadAt bytes place) where
+  pub sizes-read : {s : Sizes} {fits : Bool} → byteAt bytes place ≡ sizesTag → s ≡ sizesAt bytes (place + 3) payload → fits ≡ inRange s → not fits ≡ b
       → _≡_ {A = Read}
       (cond b
       (refusedAt WrongSize place reader)
       (record { field = field.Sizes s; next = place + 3 + payload; reader = record { stage = Events; step = 0 } }))
       (takenOrNot bytes place reader)
   unfolding takenOrNot decide taken
-  sizes-read tag sizes range test = rw (long, eq-eqb (byteAt bytes place) sizesTag tag, ← sizes, ← range, test)
+  sizes-read tag sizes range test = rw (← long, eq-eqb (byteAt bytes place) sizesTag tag, ← sizes, ← range, test)
 
   module _ {step : ℕ} (other : byteAt bytes place ≡ sizesTag → ⊥) (number : step ≡ fourAt bytes (place + 3)) where
     pub end-read : byteAt bytes place ≡ endTag → not (eqb step (reader .step)) ≡ b
@@ -39,7 +39,7 @@ module _ (bytes : List ℕ) (place : ℕ) (reader : Reader) {payload : ℕ} (b :
         (takenOrNot bytes place reader)
     unfolding takenOrNot decide taken
     end-read tag test =
-        rw (long, ne-eqb (byteAt bytes place) sizesTag other, eq-eqb (byteAt bytes place) endTag tag, ← number, test)
+        rw (← long, ne-eqb (byteAt bytes place) sizesTag other, eq-eqb (byteAt bytes place) endTag tag, ← number, test)
 
     pub event-read : {e : Event} → (byteAt bytes place ≡ endTag → ⊥) → e ≡ eventAt (byteAt bytes place) bytes (place + 3 + 4)
         → not (eqb step (reader .step + 1)) ≡ b
@@ -50,4 +50,4 @@ module _ (bytes : List ℕ) (place : ℕ) (reader : Reader) {payload : ℕ} (b :
         (takenOrNot bytes place reader)
     unfolding takenOrNot decide taken
     event-read more event test =
-        rw (long, ne-eqb (byteAt bytes place) sizesTag other, ne-eqb (byteAt bytes place) endTag more, ← number, ← event, test)
+        rw (← long, ne-eqb (byteAt bytes place) sizesTag other, ne-eqb (byteAt bytes place) endTag more, ← number, ← event, test)

@@ -23,7 +23,7 @@ use Rattle.fields.specs.declared.Stage.the-variants.{First, Events, Ende
 use Rattle.fields.specs.declared.Reader.{Reader}
 use Rattle.fields.specs.declared.Field.the-variants as field
 use Rattle.fields.specs.declared.Read.{Read}
-use Rattle.fields.specs.Field.{byteAt, fourAt, sizesTag, endTag, payloadOf, misplaced, refusals, refusedAt, decide, taken, behindEnd, fieldAt, readAt}
+use Rattle.fields.specs.Field.{byteAt, twoAt, fourAt, sizesTag, endTag, payloadOf, payloadAt, misplaced, refusals, refusedAt, decide, taken, behindEnd, fieldAt, readAt}
 use Rattle.fields.specs.Part.{longest, isTaken}
 use Rattle.fields.proofs.Tags.{either, payload-least, payload-most}
 use Rattle.fields.proofs.Order.{at-stage}
@@ -69,16 +69,16 @@ module _ (bytes : List ℕ) (place : ℕ) (reader : Reader) where
       (λ h. absurd (never h))
       (λ passed h. lies passed)
     where
-      next : taken bytes place reader .next ≡ place + 3 + payloadOf tag
-      next = let P : Read → Type 0 = (λ x. x .next ≡ place + 3 + payloadOf tag) in either P (eqb tag sizesTag) refl (either P (eqb tag endTag) refl refl)
+      next : taken bytes place reader .next ≡ place + 3 + payloadAt bytes place
+      next = let P : Read → Type 0 = (λ x. x .next ≡ place + 3 + payloadAt bytes place) in either P (eqb tag sizesTag) refl (either P (eqb tag endTag) refl refl)
 
       lies : Unrefused (refusals bytes place reader) → TakenAt bytes place (taken bytes place reader)
       lies passed =
           let known = eqb-false (payloadOf tag) 0 (or-left _ (misplaced (reader .stage) tag) (passed .1 .0)) in
-          let whole = ltb-false (length bytes) (place + 3 + payloadOf tag) (passed .1 .1 .1 .0) in
+          let whole = ltb-false (length bytes) (place + 3 + payloadAt bytes place) (passed .1 .1 .1 .0) in
           record {
-            least = omega (arith, next, payload-least tag known);
-            most = omega (arith, next, payload-most tag);
+            least = omega (arith, next, payload-least tag (twoAt bytes (place + 1)) known);
+            most = omega (arith, next, payload-most tag (twoAt bytes (place + 1)));
             inside = omega (arith, next);
           }
 

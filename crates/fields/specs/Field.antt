@@ -1,6 +1,6 @@
--- "The trace file" of document 01: what stands at a place of a trace, and the order in which a field is refused.
+-- "The trace file" of document 01, with the fields of document 02: what stands at a place of a trace, and the order in which a field is refused.
 --     byteAt, twoAt, fourAt     numbers of one, two and four bytes
---     payloadOf                 the tags, with their lengths
+--     payloadOf, payloadFor, payloadAt     the tags, with their lengths
 --     sizesAt, eventAt          what the payload of a field says
 --     misplaced                 "first field not the sizes, or sizes a second time"
 --     payloadTest, refusals     the tests of a field, in the document's order
@@ -11,13 +11,13 @@
 -- Assumes nothing.
 use Prim.Native.Nat.{ℕ, _+_, _*_, _≤_, _<_}
 use mathlib.Core.Path.{_≡_}
-use mathlib.Core.Bool.{Bool, true, cond, not, _||_}
+use mathlib.Core.Bool.{Bool, true, cond, not, _&&_, _||_}
 use mathlib.Core.List.{List, [], _∷_}
 use lib.Dec.{eqb, ltb}
 use lib.ListN.{length, getD}
 use Rattle.rules.specs.declared.Sizes.{Sizes}
 use Rattle.rules.specs.declared.Event.{Event}
-use Rattle.rules.specs.declared.Event.the-variants.{Make, Move, Drop, Load, Store, Collect}
+use Rattle.rules.specs.declared.Event.the-variants.{Make, Move, Drop, Load, Store, Look, Post, Collect}
 use Rattle.rules.specs.declared.Refusal.{Refusal}
 use Rattle.rules.specs.declared.Refusal.the-variants.{WrongSize, WrongTag, WrongLength, StopsShort, WrongStep, ExtraByte, WrongCount}
 use Rattle.rules.specs.Size.{inRange}
@@ -50,7 +50,7 @@ sizesTag = 0x01
 abbrev pub endTag : ℕ
 endTag = 0x7F
 
--- how long the payload of a tag is; 0 where there is no such tag
+-- how long the payload of a tag is, of the sizes without a board; 0 where there is no such tag
 unfoldable pub payloadOf : ℕ → ℕ
 payloadOf tag =
     cond (eqb tag sizesTag) 8
@@ -61,13 +61,30 @@ payloadOf tag =
     (cond (eqb tag 0x12) 6
     (cond (eqb tag 0x13) 8
     (cond (eqb tag 0x14) 8
+    -- "15 look w r e, 16 post w e r (length 7 each)" (document 02, request 5)
+    (cond (eqb tag 0x15) 7
+    (cond (eqb tag 0x16) 7
     (cond (eqb tag 0x20) 4
     (cond (eqb tag endTag) 4
-    0)))))))
+    0)))))))))
 
--- the sizes that stand at a place
-abbrev pub sizesAt : List ℕ → ℕ → Sizes
-sizesAt bytes i = record { n = twoAt bytes i; k = twoAt bytes (i + 2); w = twoAt bytes (i + 4); r = twoAt bytes (i + 6) }
+-- "The sizes field with length 10 carries B at its end; length 8 means B = 0." (document 02, request 5): how long the payload is of a tag whose field has this
+-- length, if the length is right at all
+unfoldable pub payloadFor : ℕ → ℕ → ℕ
+payloadFor tag long = cond (eqb tag sizesTag && eqb long 10) 10 (payloadOf tag)
+
+-- "Each field: tag .., payload length in two bytes": of the field at a place
+abbrev pub payloadAt : List ℕ → ℕ → ℕ
+payloadAt bytes place = payloadFor (byteAt bytes place) (twoAt bytes (place + 1))
+
+-- "The sizes field with length 10 carries B at its end; length 8 means B = 0." (document 02, request 5)
+abbrev pub boardAt : List ℕ → ℕ → ℕ → ℕ
+boardAt bytes i payload = cond (eqb payload 10) (twoAt bytes (i + 8)) 0
+
+-- the sizes that stand at a place, in a payload so long
+abbrev pub sizesAt : List ℕ → ℕ → ℕ → Sizes
+sizesAt bytes i payload =
+    record { n = twoAt bytes i; k = twoAt bytes (i + 2); w = twoAt bytes (i + 4); r = twoAt bytes (i + 6); b = boardAt bytes i payload }
 
 -- the event of a tag, whose bytes behind the step number stand at a place
 unfoldable pub eventAt : ℕ → List ℕ → ℕ → Event
@@ -78,7 +95,9 @@ eventAt tag bytes i =
     (cond (eqb tag 0x12) (Drop (b 0) (b 1))
     (cond (eqb tag 0x13) (Load (b 0) (b 1) (b 2) (b 3))
     (cond (eqb tag 0x14) (Store (b 0) (b 1) (b 2) (b 3))
-    Collect))))
+    (cond (eqb tag 0x15) (Look (b 0) (b 1) (b 2))
+    (cond (eqb tag 0x16) (Post (b 0) (b 1) (b 2))
+    Collect))))))
 
 -- ---- the refusals of a field
 
@@ -89,10 +108,10 @@ misplaced Events tag = eqb tag sizesTag
 misplaced Ended tag = true
 
 -- "then 1 for sizes, 10 for an event, 12 for the end": what is asked of the payload
-abbrev pub payloadTest : ℕ → List ℕ → ℕ → Reader → Test
-payloadTest tag bytes i reader =
+abbrev pub payloadTest : ℕ → ℕ → List ℕ → ℕ → Reader → Test
+payloadTest tag payload bytes i reader =
     cond (eqb tag sizesTag)
-    (record { when = not (inRange (sizesAt bytes i)); why = WrongSize })
+    (record { when = not (inRange (sizesAt bytes i payload)); why = WrongSize })
     (cond (eqb tag endTag)
     -- "end field's count is not the last step number (0 if no events)"
     (record { when = not (eqb (fourAt bytes i) (reader .step)); why = WrongCount })
@@ -103,13 +122,14 @@ payloadTest tag bytes i reader =
 unfoldable pub refusals : List ℕ → ℕ → Reader → List Test
 refusals bytes place reader =
     let tag : ℕ = byteAt bytes place in
+    let payload : ℕ = payloadAt bytes place in
     record { when = ltb (length bytes) (place + 3); why = StopsShort }
     -- "tag unknown, first field not the sizes, or sizes a second time"
     ∷ record { when = eqb (payloadOf tag) 0 || misplaced (reader .stage) tag; why = WrongTag }
     -- "field length not the tag's"
-    ∷ record { when = not (eqb (twoAt bytes (place + 1)) (payloadOf tag)); why = WrongLength }
-    ∷ record { when = ltb (length bytes) (place + 3 + payloadOf tag); why = StopsShort }
-    ∷ payloadTest tag bytes (place + 3) reader
+    ∷ record { when = not (eqb (twoAt bytes (place + 1)) payload); why = WrongLength }
+    ∷ record { when = ltb (length bytes) (place + 3 + payload); why = StopsShort }
+    ∷ payloadTest tag payload bytes (place + 3) reader
     ∷ []
 
 -- ---- what stands at a place
@@ -126,10 +146,11 @@ decide place reader (t ∷ tests) taken = cond (t .when) (refusedAt (t .why) pla
 unfoldable pub taken : List ℕ → ℕ → Reader → Read
 taken bytes place reader =
     let tag : ℕ = byteAt bytes place in
+    let payload : ℕ = payloadAt bytes place in
     let i : ℕ = place + 3 in
-    let next : ℕ = i + payloadOf tag in
+    let next : ℕ = i + payload in
     cond (eqb tag sizesTag)
-    (record { field = field.Sizes (sizesAt bytes i); next = next; reader = record { stage = Events; step = 0 } })
+    (record { field = field.Sizes (sizesAt bytes i payload); next = next; reader = record { stage = Events; step = 0 } })
     (cond (eqb tag endTag)
     (record { field = field.End; next = next; reader = record { stage = Ended; step = reader .step } })
     (record { field = field.Event (fourAt bytes i) (eventAt tag bytes (i + 4)); next = next; reader = record { stage = Events; step = fourAt bytes i } }))
@@ -142,12 +163,12 @@ behindEnd bytes place reader =
 -- a field whose payload is whole
 unfoldable pub takenOrNot : List ℕ → ℕ → Reader → Read
 takenOrNot bytes place reader =
-    decide place reader (payloadTest (byteAt bytes place) bytes (place + 3) reader ∷ []) (taken bytes place reader)
+    decide place reader (payloadTest (byteAt bytes place) (payloadAt bytes place) bytes (place + 3) reader ∷ []) (taken bytes place reader)
 
 -- the tag is known, and the bytes of its payload are there
 pub record WholeAt (bytes : List ℕ) (place : ℕ) : Type 0 where
   pub tag : payloadOf (byteAt bytes place) ≡ 0 → ⊥
-  pub whole : place + 3 + payloadOf (byteAt bytes place) ≤ length bytes
+  pub whole : place + 3 + payloadAt bytes place ≤ length bytes
 
 unfoldable pub fieldAt : List ℕ → ℕ → Reader → Read
 fieldAt bytes place reader = decide place reader (refusals bytes place reader) (taken bytes place reader)

@@ -9,7 +9,7 @@ use Rattle.fields.specs.declared.Field.{Field}
 use Rattle.fields.specs.declared.Field.the-variants.{Sizes, Event, End, Nothing, Refused}
 use Rattle.fields.specs.declared.Read.{Read}
 
--- tag and length, and a payload of 10 bytes at most: of 8 today, and of 10 with the sizes of document 02's request 5
+-- tag and length, and a payload of 10 bytes at most
 abbrev pub longest : ℕ
 longest = 13
 

@@ -3,7 +3,7 @@
 //     Field, Read        what stands at a place, the place behind it, and what may come then
 //     read_at            the field reader. It takes any bytes, any place and any state of the reader
 //     event_size         where an event stands, for whoever reads events one after another
-// Below these: payload_of, is_misplaced, two_at, four_at, sizes_at, event_at, which read a field's parts; take_field and read_field, which read a field.
+// Below these: payload_of, payload_for, is_misplaced, two_at, four_at, board_at, sizes_at, event_at, which read a field's parts; take_field and read_field, which read a field.
 use rules::Event;
 use rules::Refusal;
 use rules::Sizes;
@@ -11,7 +11,7 @@ use tables::place::in_range;
 ghost use mathlib.Core.Path.{_≡_};
 ghost use Prim.Native.Nat.{_+_, _≤_, _<_};
 ghost use lib.ListN.{length};
-ghost use Rattle.fields.specs.Field.{twoAt, fourAt, payloadOf, sizesAt, eventAt, misplaced, refusedAt, WholeAt, takenOrNot, fieldAt, readAt, EventSized};
+ghost use Rattle.fields.specs.Field.{twoAt, fourAt, payloadOf, payloadFor, payloadAt, boardAt, sizesAt, eventAt, misplaced, refusedAt, WholeAt, takenOrNot, fieldAt, readAt, EventSized};
 
 // What may come next in a trace.
 pub enum Stage {
@@ -48,17 +48,27 @@ pub struct Read {
     pub reader: Reader,
 }
 
-// How long the payload of a tag is; 0 where there is no such tag.
+// How long the payload of a tag is, of the sizes without a board; 0 where there is no such tag.
 fn payload_of(tag: u8) -> usize
     ensures { λ x. ⌜ x ≡ payloadOf tag ⌝ }
 {
     match tag {
         0x01 | 0x13 | 0x14 => 8,
         0x10 | 0x12 => 6,
-        0x11 => 7,
+        0x11 | 0x15 | 0x16 => 7,
         0x20 | 0x7F => 4,
         _ => 0,
     }
+}
+
+// How long it is in a field of this length, if the length is right at all: the sizes may have a board.
+fn payload_for(tag: u8, long: u16) -> usize
+    ensures { λ x. ⌜ x ≡ payloadFor tag long ⌝ }
+{
+    if (tag == 0x01) & (long == 10) {
+        return 10;
+    }
+    payload_of(tag)
 }
 
 // "first field not the sizes, or sizes a second time"
@@ -118,19 +128,41 @@ pub fn event_at(tag: u8, bytes: &[u8], i: usize) -> Event
             f: bytes[i + 2],
             r: bytes[i + 3],
         },
+        0x15 => Event::Look {
+            w: bytes[i],
+            r: bytes[i + 1],
+            e: bytes[i + 2],
+        },
+        0x16 => Event::Post {
+            w: bytes[i],
+            e: bytes[i + 1],
+            r: bytes[i + 2],
+        },
         _ => Event::Collect,
     }
 }
 
-fn sizes_at(bytes: &[u8], i: usize) -> Sizes
-    requires { ⌜ i + 7 < length (now bytes) ⌝ }
-    ensures { λ x. ⌜ x ≡ sizesAt (now (bytes .entry)) i ⌝ }
+// "The sizes field with length 10 carries B at its end; length 8 means B = 0." (document 02, request 5)
+fn board_at(bytes: &[u8], i: usize, payload: usize) -> u16
+    requires { ⌜ i + payload ≤ length (now bytes) ⌝ }
+    ensures { λ x. ⌜ x ≡ boardAt (now (bytes .entry)) i payload ⌝ }
+{
+    if payload == 10 {
+        return two_at(bytes, i + 8);
+    }
+    0
+}
+
+fn sizes_at(bytes: &[u8], i: usize, payload: usize) -> Sizes
+    requires { ⌜ (8 ≤ payload) × (i + payload ≤ length (now bytes)) ⌝ }
+    ensures { λ x. ⌜ x ≡ sizesAt (now (bytes .entry)) i payload ⌝ }
 {
     Sizes {
         n: two_at(bytes, i),
         k: two_at(bytes, i + 2),
         w: two_at(bytes, i + 4),
         r: two_at(bytes, i + 6),
+        b: board_at(bytes, i, payload),
     }
 }
 
@@ -146,15 +178,15 @@ fn refused_at(why: Refusal, place: usize, reader: Reader) -> Read
 }
 
 // "then 1 for sizes, 10 for an event, 12 for the end": a field whose payload is whole.
-fn take_field(bytes: &[u8], place: usize, reader: Reader) -> Read
-    requires { ⌜ WholeAt (now bytes) place ⌝ }
+fn take_field(bytes: &[u8], place: usize, payload: usize, reader: Reader) -> Read
+    requires { ⌜ WholeAt (now bytes) place × (payload ≡ payloadAt (now bytes) place) ⌝ }
     ensures { λ x. ⌜ x ≡ takenOrNot (now (bytes .entry)) place reader ⌝ }
 {
     let tag = bytes[place];
     let i = place + 3;
-    let next = i + payload_of(tag);
+    let next = i + payload;
     if tag == 0x01 {
-        let s = sizes_at(bytes, i);
+        let s = sizes_at(bytes, i, payload);
         if !in_range(s) {
             return refused_at(Refusal::WrongSize, place, reader);
         }
@@ -206,21 +238,22 @@ fn read_field(bytes: &[u8], place: usize, reader: Reader) -> Read
         return refused_at(Refusal::StopsShort, place, reader);
     }
     let tag = bytes[place];
-    let payload = payload_of(tag);
-    if payload == 0 {
+    if payload_of(tag) == 0 {
         return refused_at(Refusal::WrongTag, place, reader);
     }
     let stage = reader.stage;
     if is_misplaced(stage, tag) {
         return refused_at(Refusal::WrongTag, place, reader);
     }
-    if (two_at(bytes, place + 1) as usize) != payload {
+    let long = two_at(bytes, place + 1);
+    let payload = payload_for(tag, long);
+    if (long as usize) != payload {
         return refused_at(Refusal::WrongLength, place, reader);
     }
     if left < 3 + payload {
         return refused_at(Refusal::StopsShort, place, reader);
     }
-    take_field(bytes, place, reader)
+    take_field(bytes, place, payload, reader)
 }
 
 // What stands at a place of a trace. Two wrong programs that the contract rules out: one that refuses every trace, and one that forgets the last step number

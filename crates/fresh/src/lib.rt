@@ -36,7 +36,7 @@ fn is_exact(
     ensures { λ x. ⌜ x ≡ isExact s (lent (used .entry) (counts .entry) (held .entry) (candidates .entry) (makers .entry) (values .entry) (changed .entry) (registers .entry) (snoops .entry) (logs .entry) (history .entry) (lengths .entry)) ⌝ }
 {
     let records = s.n as usize;
-    let links = (s.n as usize) * (s.k as usize);
+    let links = (s.n as usize) * (s.k as usize) + (s.b as usize);
     let workers = s.w as usize;
     let places = (s.w as usize) * (s.r as usize);
     (used.len() == records)

@@ -44,10 +44,10 @@ module _ {s : Sizes} {t : Tables} {c : Collector} (known : Known s t c) where
   pub onward-asks : (k : ℕ) → k ≤ 5 → c .phase ≡ k → Movable c
   onward-asks k h e =
       let m : ℕ = length (p .history) in
-      let workers : s .w ≤ 8192 = omega (arith, bounds s (known .sizes) .w-most) in
-      let entries : m ≤ 8192 = omega (arith, sound .history-length, links-most s (known .sizes)) in
-      let most : positionsIn s k (p .history) ≤ 8192 =
-      Each-at (λ n. n ≤ 8192) (1 ∷ s .w ∷ s .w ∷ m ∷ s .w ∷ m ∷ []) k 1 (omega arith)
+      let workers : s .w ≤ 8208 = omega (arith, bounds s (known .sizes) .w-most) in
+      let entries : m ≤ 8208 = omega (arith, sound .history-length, links-most s (known .sizes)) in
+      let most : positionsIn s k (p .history) ≤ 8208 =
+      Each-at (λ n. n ≤ 8208) (1 ∷ s .w ∷ s .w ∷ m ∷ s .w ∷ m ∷ []) k 1 (omega arith)
       (omega arith, (workers, (workers, (entries, (workers, (entries, tt)))))) in
       (omega arith, omega (arith, position-known k e))
 

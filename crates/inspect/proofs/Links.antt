@@ -59,7 +59,7 @@ pub record Cut (s : Sizes) (t : Tables) (c : Collector) (to from end : ℕ) : Ty
   pub whole : end ≡ entriesOf s t
 
 module _ {s : Sizes} {t : Tables} {c : Collector} (fits : Fits s t c) {to from end : ℕ} (cut : Cut s t c to from end) where
-  pub cut-order : (to ≤ from) × (from ≤ end) × (end ≤ 8192) × (end * 2 ≤ length (t .history))
+  pub cut-order : (to ≤ from) × (from ≤ end) × (end ≤ 8208) × (end * 2 ≤ length (t .history))
   cut-order =
       let n = entriesOf s t in
       let ordered = parted s c n (fits .phase) in
@@ -99,7 +99,7 @@ module _ {s : Sizes} {t : Tables} {c : Collector} (fits : Fits s t c) {to from e
 -- ---- the parts together
 
 abbrev zeros : List ℕ
-zeros = replicate 8192 0
+zeros = replicate 8208 0
 
 and-late : (a b c d e : Bool) → (a && (b && c) && d && e) ≡ (a && b && d && e && c)
 and-late false b c d e = refl

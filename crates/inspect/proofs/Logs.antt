@@ -119,15 +119,15 @@ module _ {s : Sizes} {logs lengths : List ℕ} (right : LogTables s logs lengths
         ap (λ ls. noted ls .last) (sym all) ∙ h .known,
       )
 
-  pub logs-most : (start : Noted) (b w : ℕ) {seen : List ℕ} → notedLogs s logs lengths w start .seen ≡ seen → Most b (start .seen) → Most (b + w * 8192) seen
+  pub logs-most : (start : Noted) (b w : ℕ) {seen : List ℕ} → notedLogs s logs lengths w start .seen ≡ seen → Most b (start .seen) → Most (b + w * 8208) seen
   logs-most start b w e h =
-      subst (Most (b + w * 8192)) e
+      subst (Most (b + w * 8208)) e
       (most-more (notedLogs s logs lengths w start .seen)
       (omega (arith, joined-most (links s) w lengths (cut (s .w) (room s) logs) (right .low), mul-le-mul-left w (links-most s (right .sizes))))
       (entered-most (links s) (s .n) 1 (flatten (take w (logsIn s logs lengths))) start b h))
 
   pub all-logs-most : (start : Noted) (b : ℕ) {seen : List ℕ}
-      → enteredAll (links s) (s .n) 1 (flatten (logsIn s logs lengths)) start .seen ≡ seen → Most b (start .seen) → Most (b + 65536) seen
+      → enteredAll (links s) (s .n) 1 (flatten (logsIn s logs lengths)) start .seen ≡ seen → Most b (start .seen) → Most (b + 65664) seen
   all-logs-most start b {seen} e h =
       let all : take (s .w) (logsIn s logs lengths) ≡ logsIn s logs lengths = take-all (s .w) (logsIn s logs lengths) (omega (arith, many-logs)) in
       most-more seen (omega (arith, bounds s (right .sizes) .w-most))

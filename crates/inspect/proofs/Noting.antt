@@ -80,7 +80,7 @@ module _ (links records by : ℕ) where
 
   -- entry k of a room, behind the k entries before it
   pub entered-next : (list : List ℕ) (k : ℕ) (start : Noted) {x : Noted} {i place : ℕ}
-      → enteredAll links records by (entries k list) start ≡ x → i ≡ k * 2 → place ≡ getD list i 0 % 8192
+      → enteredAll links records by (entries k list) start ≡ x → i ≡ k * 2 → place ≡ getD list i 0 % 8208
       → enteredAll links records by (entries (suc k) list) start
       ≡ record {
         ok = x .ok && ltb (getD list i 0) links && leb (getD list (i + 1) 0) records;

@@ -20,7 +20,7 @@ unfolding tallied
 none-yet values zeros = record { are = zeros; most = subst (Most 0) (sym zeros) (most-zeros 0 8320) }
 
 -- a number of a tally may be raised
-pub still-low : {values tally : List ℕ} {l : ℕ} → Tallied values l tally → l ≤ 8191 → Most 8191 tally
+pub still-low : {values tally : List ℕ} {l : ℕ} → Tallied values l tally → l ≤ 8207 → Most 8207 tally
 still-low {tally = tally} h low = most-more tally low (h .most)
 
 -- the link's value is raised in the tally that begins at its place

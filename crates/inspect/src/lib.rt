@@ -93,8 +93,8 @@ fn uncleared_from(c: Collector, entries: u16) -> u16
 
 // The entries of a list are in range; each raises what was seen of its link, and is the last that is known of it.
 fn enter(
-    seen: &mut [u32; 8192],
-    last: &mut [u16; 8192],
+    seen: &mut [u32; 8208],
+    last: &mut [u16; 8208],
     list: &[u16],
     links: u16,
     records: u16,
@@ -111,7 +111,7 @@ fn enter(
         let link = list[i];
         let old = list[i + 1];
         ok = ok & (link < links) & (old <= records);
-        let place = wide(link % 8192);
+        let place = wide(link % 8208);
         seen[place] = seen[place] + by;
         last[place] = old;
         i += 2;
@@ -122,8 +122,8 @@ fn enter(
 // The entries of all logs, and 0 past their lengths.
 fn enter_logs(
     s: Sizes,
-    seen: &mut [u32; 8192],
-    last: &mut [u16; 8192],
+    seen: &mut [u32; 8208],
+    last: &mut [u16; 8208],
     logs: &[u16],
     lengths: &[u16],
 ) -> bool
@@ -149,8 +149,8 @@ fn enter_logs(
 }
 
 // The links' values, each a record number, are the last that is known of each link.
-fn take_values(last: &mut [u16; 8192], values: &[u16], records: u16) -> bool
-    requires { ⌜ (length (now values) ≤ 8192) × (length (now last) ≡ 8192) ⌝ }
+fn take_values(last: &mut [u16; 8208], values: &[u16], records: u16) -> bool
+    requires { ⌜ (length (now values) ≤ 8208) × (length (now last) ≡ 8208) ⌝ }
     ensures { λ x. ⌜ ((seen : List ℕ) → valued records (now (values .entry)) (record { ok = true; seen = seen; last = now (last .entry) }) ≡ record { ok = x; seen = seen; last = now (last .exit) }) ⌝ }
 {
     let mut ok = true;
@@ -165,8 +165,8 @@ fn take_values(last: &mut [u16; 8192], values: &[u16], records: u16) -> bool
 }
 
 // Each changed mark is how often its link stands among the logs and the uncleared history, and no link stands twice in the history.
-fn marks_match(changed: &[u16], seen: &[u32; 8192]) -> bool
-    requires { ⌜ length (now changed) ≤ 8192 ⌝ }
+fn marks_match(changed: &[u16], seen: &[u32; 8208]) -> bool
+    requires { ⌜ length (now changed) ≤ 8208 ⌝ }
     ensures { λ x. ⌜ x ≡ marksMatch (now (changed .entry)) (now (seen .entry)) ⌝ }
 {
     let mut ok = true;
@@ -182,7 +182,7 @@ fn marks_match(changed: &[u16], seen: &[u32; 8192]) -> bool
 
 // One link more counts for a record, in the tally that begins here.
 fn tally_link(tally: &mut [u16; 8320], from: usize, value: u16)
-    requires { ⌜ (from ≤ 6240) × Each (λ x. x ≤ 8191) (now tally) ⌝ }
+    requires { ⌜ (from ≤ 6240) × Each (λ x. x ≤ 8207) (now tally) ⌝ }
     ensures { λ _. ⌜ now (tally .exit) ≡ raised (now (tally .entry)) (from + value % 2048) ⌝ }
 {
     let place = from + wide(value % 2048);
@@ -190,8 +190,8 @@ fn tally_link(tally: &mut [u16; 8320], from: usize, value: u16)
 }
 
 // How many of the first links count for each record, four links in a turn, one for each tally; and how many links these are.
-fn tally_fours(tally: &mut [u16; 8320], last: &[u16; 8192], links: usize) -> usize
-    requires { ⌜ (now tally ≡ replicate 8320 0) × (links ≤ 8192) ⌝ }
+fn tally_fours(tally: &mut [u16; 8320], last: &[u16; 8208], links: usize) -> usize
+    requires { ⌜ (now tally ≡ replicate 8320 0) × (links ≤ 8208) ⌝ }
     ensures { λ l. ⌜ (l ≤ links) × (now (tally .exit) ≡ tallied (now (last .entry)) l (replicate 8320 0)) × Each (λ x. x ≤ l) (now (tally .exit)) ⌝ }
 {
     let mut l = 0;
@@ -206,9 +206,9 @@ fn tally_fours(tally: &mut [u16; 8320], last: &[u16; 8192], links: usize) -> usi
 }
 
 // How many of the first links count for each record, in four tallies side by side.
-fn tally_links(tally: &mut [u16; 8320], last: &[u16; 8192], links: usize)
-    requires { ⌜ (now tally ≡ replicate 8320 0) × (links ≤ 8192) ⌝ }
-    ensures { λ _. ⌜ (now (tally .exit) ≡ tallied (now (last .entry)) links (replicate 8320 0)) × Each (λ x. x ≤ 8192) (now (tally .exit)) ⌝ }
+fn tally_links(tally: &mut [u16; 8320], last: &[u16; 8208], links: usize)
+    requires { ⌜ (now tally ≡ replicate 8320 0) × (links ≤ 8208) ⌝ }
+    ensures { λ _. ⌜ (now (tally .exit) ≡ tallied (now (last .entry)) links (replicate 8320 0)) × Each (λ x. x ≤ 8208) (now (tally .exit)) ⌝ }
 {
     let mut l = tally_fours(tally, last, links);
     while l < links {
@@ -219,7 +219,7 @@ fn tally_links(tally: &mut [u16; 8320], last: &[u16; 8192], links: usize)
 
 // Each count is the tally of its record.
 fn counts_match(counts: &[u16], tally: &[u16; 8320]) -> bool
-    requires { ⌜ (length (now counts) ≤ 1024) × Each (λ x. x ≤ 8192) (now tally) ⌝ }
+    requires { ⌜ (length (now counts) ≤ 1024) × Each (λ x. x ≤ 8208) (now tally) ⌝ }
     ensures { λ x. ⌜ x ≡ countsMatch (now (counts .entry)) (now (tally .entry)) ⌝ }
 {
     let mut ok = true;
@@ -272,8 +272,8 @@ fn links_fit(
     let to = wide(counted_to(c)) * 2;
     let from = wide(uncleared_from(c, n)) * 2;
     let end = wide(n) * 2;
-    let mut seen = [0u32; 8192];
-    let mut last = [0u16; 8192];
+    let mut seen = [0u32; 8208];
+    let mut last = [0u16; 8208];
     let mut tally = [0u16; 8320];
     let counted = enter(&mut seen, &mut last, &history[..to], links, s.n, 131072);
     let valued = take_values(&mut last, values, s.n);

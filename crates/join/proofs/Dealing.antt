@@ -143,11 +143,13 @@ module _ {sizes : List ℕ} {s : Sizes} (opens : Opens sizes s) where
   equal-same : equalSizes s s ≡ true
   unfolding equalSizes
   equal-same =
-      and-both (eqb (s .n) (s .n) && eqb (s .k) (s .k) && eqb (s .w) (s .w)) (eqb (s .r) (s .r))
+      and-both (eqb (s .n) (s .n) && eqb (s .k) (s .k) && eqb (s .w) (s .w) && eqb (s .r) (s .r)) (eqb (s .b) (s .b))
+      (and-both (eqb (s .n) (s .n) && eqb (s .k) (s .k) && eqb (s .w) (s .w)) (eqb (s .r) (s .r))
       (and-both (eqb (s .n) (s .n) && eqb (s .k) (s .k)) (eqb (s .w) (s .w))
       (and-both (eqb (s .n) (s .n)) (eqb (s .k) (s .k)) (eq-eqb (s .n) (s .n) refl) (eq-eqb (s .k) (s .k) refl))
       (eq-eqb (s .w) (s .w) refl))
-      (eq-eqb (s .r) (s .r) refl)
+      (eq-eqb (s .r) (s .r) refl))
+      (eq-eqb (s .b) (s .b) refl)
 
   all-same : (dealt : List (List Numbered)) → allSized s (map partWith dealt) ≡ true
   unfolding allSized

@@ -1,5 +1,5 @@
 -- The definitions computed on small parts: what the joined trace is, and each refusal.
---     sizes, otherSizes, make, collect, end     fields
+--     sizes, otherSizes, boardSizes, make, collect, end     fields
 --     computes                                  all that a row computes through
 -- Assumes nothing.
 use Prim.Native.Nat.{ℕ}
@@ -8,7 +8,7 @@ use mathlib.Core.List.{List, [], _∷_, _++_, flatten}
 use lib.ListN.{replicate}
 use Rattle.rules.specs.declared.Refusal.the-variants.{WrongSize, StopsShort, WrongStep, WrongCount, SizesDiffer, OutputShort, ExtraByte}
 use Rattle.rules.specs.Size.{inRange}
-use Rattle.fields.specs.Field.{payloadOf, eventAt, refusals, decide, taken, behindEnd, fieldAt, readAt}
+use Rattle.fields.specs.Field.{payloadOf, payloadFor, eventAt, refusals, decide, taken, behindEnd, fieldAt, readAt}
 use Rattle.join.specs.declared.Joined.the-variants.{Length}
 use Rattle.join.specs.Part.{numberAt, expected, eventsTold, partTold, partsTold}
 use Rattle.join.specs.Joined.{sum, endToEnd, equalSizes, allSized, sameSizes, allEvents, stands, standTo, fieldOf, inOrder, endField, firstField, joinedTrace, JoinedOn, refusedOn, wholeOn, joinedOn}
@@ -25,11 +25,15 @@ make n = 0x10 ∷ 0 ∷ 6 ∷ 0 ∷ 0 ∷ 0 ∷ n ∷ 0 ∷ 0 ∷ []
 otherSizes : List ℕ
 otherSizes = 1 ∷ 0 ∷ 8 ∷ 0 ∷ 3 ∷ 0 ∷ 1 ∷ 0 ∷ 1 ∷ 0 ∷ 1 ∷ []
 
+-- the same with a board: "The sizes field with length 10 carries B at its end" (document 02, request 5)
+boardSizes : ℕ → List ℕ
+boardSizes b = 1 ∷ 0 ∷ 10 ∷ 0 ∷ 2 ∷ 0 ∷ 1 ∷ 0 ∷ 1 ∷ 0 ∷ 1 ∷ 0 ∷ b ∷ []
+
 end : ℕ → List ℕ
 end n = 0x7F ∷ 0 ∷ 4 ∷ 0 ∷ 0 ∷ 0 ∷ n ∷ []
 
 computes : JoinedOn → JoinedOn
-unfolding flatten sizes otherSizes collect make end payloadOf eventAt refusals decide taken behindEnd fieldAt readAt inRange numberAt expected eventsTold partTold partsTold sum endToEnd equalSizes allSized sameSizes allEvents stands standTo fieldOf inOrder endField firstField joinedTrace wholeOn joinedOn
+unfolding flatten sizes otherSizes boardSizes collect make end payloadOf payloadFor eventAt refusals decide taken behindEnd fieldAt readAt inRange numberAt expected eventsTold partTold partsTold sum endToEnd equalSizes allSized sameSizes allEvents stands standTo fieldOf inOrder endField firstField joinedTrace wholeOn joinedOn
 computes x = x
 
 -- steps 1 and 3 in one part, 2 in another; the bytes beyond stay
@@ -49,6 +53,17 @@ nine-before-ten : joinedOn
     }
 unfolding computes
 nine-before-ten = refl
+
+-- "length 8 means B = 0" (document 02, request 5): a part of that length joins one of length 10 with B = 0, and the joined trace has the first one's field
+eight-before-ten : joinedOn ((sizes ++ make 1 ++ end 1) ++ (boardSizes 0 ++ collect 2 ++ end 1)) (27 ∷ 27 ∷ []) (replicate 34 7)
+    ≡ record { joined = Length 34; out = sizes ++ make 1 ++ collect 2 ++ end 2 }
+unfolding computes
+eight-before-ten = refl
+
+ten-before-eight : joinedOn ((boardSizes 0 ++ collect 2 ++ end 1) ++ (sizes ++ make 1 ++ end 1)) (27 ∷ 27 ∷ []) (replicate 36 7)
+    ≡ record { joined = Length 36; out = boardSizes 0 ++ make 1 ++ collect 2 ++ end 2 }
+unfolding computes
+ten-before-eight = refl
 
 -- no part, and lengths that do not add up
 no-part : joinedOn [] [] [] ≡ refusedOn WrongSize 0 []
@@ -75,6 +90,11 @@ extra-byte = refl
 other-sizes : joinedOn (sizes ++ end 0 ++ otherSizes ++ make 2 ++ end 1) (18 ∷ 27 ∷ []) [] ≡ refusedOn SizesDiffer 0 []
 unfolding computes
 other-sizes = refl
+
+-- a board and none
+other-board : joinedOn (sizes ++ end 0 ++ boardSizes 1 ++ end 0) (18 ∷ 20 ∷ []) [] ≡ refusedOn SizesDiffer 0 []
+unfolding computes
+other-board = refl
 
 step-missing : joinedOn (sizes ++ end 0 ++ sizes ++ make 2 ++ end 1) (18 ∷ 27 ∷ []) [] ≡ refusedOn WrongStep 0 []
 unfolding computes

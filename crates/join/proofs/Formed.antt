@@ -6,7 +6,7 @@
 -- Assumes nothing.
 use Prim.Native.Nat.{ℕ, zero, suc, _+_, _-_, _*_, _≤_, _<_}
 use mathlib.Core.Path.{_≡_, refl, sym, ap, _∙_, subst}
-use mathlib.Core.Bool.{Bool, true, false, not}
+use mathlib.Core.Bool.{Bool, true, false, cond, not}
 use mathlib.Core.List.{List, _++_}
 use native.Mathlib.Omega.{arith}
 use borrow.Author.Tests.{ltb-false, eqb-true, not-false, eq-eqb}
@@ -21,9 +21,9 @@ use Rattle.laws.proofs.Refusals.{Unrefused}
 use Rattle.fields.specs.declared.Stage.the-variants.{Events}
 use Rattle.fields.specs.declared.Field.the-variants as field
 use Rattle.fields.specs.declared.Read.{Read}
-use Rattle.fields.specs.Field.{byteAt, twoAt, fourAt, sizesTag, endTag, payloadOf, sizesAt, refusals, taken, readAt}
+use Rattle.fields.specs.Field.{byteAt, twoAt, fourAt, sizesTag, endTag, payloadOf, payloadFor, payloadAt, boardAt, sizesAt, refusals, taken, readAt}
 use Rattle.fields.specs.Part.{isTaken}
-use Rattle.fields.proofs.Tags.{payload-least}
+use Rattle.fields.proofs.Tags.{tag-least, sizes-payload}
 use Rattle.fields.proofs.Order.{Headed, payload-whole, before-end}
 use Rattle.fields.proofs.Payload.{sizes-read}
 use Rattle.fields.proofs.Taken.{read-holds}
@@ -54,7 +54,7 @@ module _ {a b : List ℕ} {p q size : ℕ} (alike : Alike a p b q size) where
   pub says-alike : {step : ℕ} → Says a p step → 3 + payloadOf (byteAt a p) ≤ size → Says b q step
   says-alike says h =
       let tag = tag-alike (omega arith) in
-      let long = payload-least (byteAt a p) (says .known) in
+      let long = tag-least (byteAt a p) (says .known) in
       let payload : payloadOf (byteAt b q) ≡ payloadOf (byteAt a p) = ap payloadOf tag in
       record {
         begins = omega (arith, alike .inside);
@@ -143,38 +143,58 @@ events-formed (suc turns) bytes place last events told =
 
 -- ---- a sizes field
 
--- the bytes of a sizes field
+-- the bytes of a sizes field: "The sizes field with length 10 carries B at its end; length 8 means B = 0." (document 02, request 5)
 pub record SaysSizes (bytes : List ℕ) (place : ℕ) (s : Sizes) : Type 0 where
   pub tag : byteAt bytes place ≡ sizesTag
-  pub long : twoAt bytes (place + 1) ≡ payloadOf sizesTag
-  pub whole : place + 3 + payloadOf sizesTag ≤ length bytes
-  pub sizes : s ≡ sizesAt bytes (place + 3)
+  pub long : twoAt bytes (place + 1) ≡ payloadAt bytes place
+  pub whole : place + 3 + payloadAt bytes place ≤ length bytes
+  pub sizes : s ≡ sizesAt bytes (place + 3) (payloadAt bytes place)
   pub range : inRange s ≡ true
 
 -- a sizes field, and no more
 pub record Opens (bytes : List ℕ) (s : Sizes) : Type 0 where
   pub says : SaysSizes bytes 0 s
-  pub long : length bytes ≡ 3 + payloadOf sizesTag
+  pub long : length bytes ≡ 3 + payloadAt bytes 0
 
 module _ {a b : List ℕ} {p q size : ℕ} (alike : Alike a p b q size) where
-  sizes-alike : {s : Sizes} → SaysSizes a p s → 3 + payloadOf sizesTag ≤ size → SaysSizes b q s
-  unfolding payloadOf
+  payload-alike : 3 ≤ size → payloadAt b q ≡ payloadAt a p
+  payload-alike h =
+      let tag = tag-alike alike (omega arith) in
+      let long = two-alike alike (p + 1) (q + 1) 1 refl refl (omega arith) in
+      λ j. payloadFor (tag j) (long j)
+
+  -- B stands there in a payload of length 10 alone
+  board-alike : (payload : ℕ) → 3 + payload ≤ size → boardAt b (q + 3) payload ≡ boardAt a (p + 3) payload
+  board-alike payload h = by-length (eqb payload 10) refl
+    where
+      by-length : (x : Bool) → eqb payload 10 ≡ x → cond x (twoAt b (q + 3 + 8)) 0 ≡ cond x (twoAt a (p + 3 + 8)) 0
+      by-length true is = let ten = eqb-true payload 10 is in two-alike alike (p + 3 + 8) (q + 3 + 8) 11 (omega arith) (omega arith) (omega arith)
+      by-length false is = refl
+
+  sizes-alike : {s : Sizes} → SaysSizes a p s → 3 + payloadAt a p ≤ size → SaysSizes b q s
   sizes-alike says h =
       record {
         tag = tag-alike alike (omega arith) ∙ says .tag;
-        long = two-alike alike (p + 1) (q + 1) 1 refl refl (omega arith) ∙ says .long;
-        whole = omega (arith, alike .inside);
-        sizes = says .sizes ∙ sym same;
+        long = two-alike alike (p + 1) (q + 1) 1 refl refl (omega arith) ∙ says .long ∙ sym payload;
+        whole = omega (arith, alike .inside, payload);
+        sizes = says .sizes ∙ sym same ∙ ap (sizesAt b (q + 3)) (sym payload);
         range = says .range;
       }
     where
-      same : sizesAt b (q + 3) ≡ sizesAt a (p + 3)
+      payload : payloadAt b q ≡ payloadAt a p
+      payload = payload-alike (omega arith)
+
+      least : 8 ≤ payloadAt a p
+      least = sizes-payload (byteAt a p) (twoAt a (p + 1)) (says .tag)
+
+      same : sizesAt b (q + 3) (payloadAt a p) ≡ sizesAt a (p + 3) (payloadAt a p)
       same =
           λ j. record {
-            n = two-alike alike (p + 3) (q + 3) 3 refl refl (omega arith) j;
-            k = two-alike alike (p + 3 + 2) (q + 3 + 2) 5 (omega arith) (omega arith) (omega arith) j;
-            w = two-alike alike (p + 3 + 4) (q + 3 + 4) 7 (omega arith) (omega arith) (omega arith) j;
-            r = two-alike alike (p + 3 + 6) (q + 3 + 6) 9 (omega arith) (omega arith) (omega arith) j;
+            n = two-alike alike (p + 3) (q + 3) 3 refl refl (omega (arith, least)) j;
+            k = two-alike alike (p + 3 + 2) (q + 3 + 2) 5 (omega arith) (omega arith) (omega (arith, least)) j;
+            w = two-alike alike (p + 3 + 4) (q + 3 + 4) 7 (omega arith) (omega arith) (omega (arith, least)) j;
+            r = two-alike alike (p + 3 + 6) (q + 3 + 6) 9 (omega arith) (omega arith) (omega (arith, least)) j;
+            b = board-alike (payloadAt a p) h j;
           }
 
 module _ (bytes : List ℕ) (place : ℕ) where
@@ -182,31 +202,30 @@ module _ (bytes : List ℕ) (place : ℕ) where
   tag = byteAt bytes place
 
   -- what is known where a sizes field is read
-  sizes-say : (s : Sizes) → readAt bytes place atFirst .field ≡ field.Sizes s → SaysSizes bytes place s × (readAt bytes place atFirst .next ≡ place + (3 + payloadOf sizesTag))
+  sizes-say : (s : Sizes) → readAt bytes place atFirst .field ≡ field.Sizes s → SaysSizes bytes place s × (readAt bytes place atFirst .next ≡ place + (3 + payloadAt bytes place))
   unfolding taken refusals tag
   sizes-say =
-      read-holds place atFirst (λ x. (s : Sizes) → x .field ≡ field.Sizes s → SaysSizes bytes place s × (x .next ≡ place + (3 + payloadOf sizesTag)))
+      read-holds place atFirst (λ x. (s : Sizes) → x .field ≡ field.Sizes s → SaysSizes bytes place s × (x .next ≡ place + (3 + payloadAt bytes place)))
       (λ why s h. absurd (never (ap isTaken h)))
       bytes
       (λ s h. absurd (never (ap isTaken h)))
       (by-tag (eqb tag sizesTag) refl (eqb tag endTag) refl)
     where
       by-tag : (x : Bool) → eqb tag sizesTag ≡ x → (y : Bool) → eqb tag endTag ≡ y → Unrefused (refusals bytes place atFirst)
-          → (s : Sizes) → taken bytes place atFirst .field ≡ field.Sizes s → SaysSizes bytes place s × (taken bytes place atFirst .next ≡ place + (3 + payloadOf sizesTag))
+          → (s : Sizes) → taken bytes place atFirst .field ≡ field.Sizes s → SaysSizes bytes place s × (taken bytes place atFirst .next ≡ place + (3 + payloadAt bytes place))
       by-tag true isSizes y isEnd passed s h =
           let is = eqb-true tag sizesTag isSizes in
-          let payload : payloadOf tag ≡ payloadOf sizesTag = ap payloadOf is in
           let read = rw isSizes at h in
-          let sizes : sizesAt bytes (place + 3) ≡ s = cc in
+          let sizes : sizesAt bytes (place + 3) (payloadAt bytes place) ≡ s = cc in
           let test = rw isSizes at (passed .1 .1 .1 .1 .0) in (
             record {
               tag = is;
-              long = eqb-true (twoAt bytes (place + 1)) (payloadOf tag) (not-false _ (passed .1 .1 .0)) ∙ payload;
-              whole = omega (arith, ltb-false (length bytes) (place + 3 + payloadOf tag) (passed .1 .1 .1 .0), payload);
+              long = eqb-true (twoAt bytes (place + 1)) (payloadAt bytes place) (not-false _ (passed .1 .1 .0));
+              whole = ltb-false (length bytes) (place + 3 + payloadAt bytes place) (passed .1 .1 .1 .0);
               sizes = sym sizes;
               range = rw (← sizes) (not-false _ test);
             },
-            rw isSizes (omega (arith, payload)),
+            rw isSizes (omega arith),
           )
       by-tag false isSizes true isEnd passed s h =
           let other = rw (isSizes, isEnd) at h in
@@ -217,23 +236,22 @@ module _ (bytes : List ℕ) (place : ℕ) where
 
   -- and where its bytes say so, it is read
   sizes-there : {s : Sizes} → SaysSizes bytes place s
-      → _≡_ {A = Read} (readAt bytes place atFirst) (record { field = field.Sizes s; next = place + (3 + payloadOf sizesTag); reader = record { stage = Events; step = 0 } })
+      → _≡_ {A = Read} (readAt bytes place atFirst) (record { field = field.Sizes s; next = place + (3 + payloadAt bytes place); reader = record { stage = Events; step = 0 } })
   unfolding payloadOf
   sizes-there {s} says =
-      let payload : payloadOf sizesTag ≡ payloadOf (byteAt bytes place) = ap payloadOf (sym (says .tag)) in
-      let on : place + (3 + payloadOf sizesTag) ≡ place + 3 + payloadOf sizesTag = omega arith in
+      let on : place + (3 + payloadAt bytes place) ≡ place + 3 + payloadAt bytes place = omega arith in
       sym
       (ap (λ (n : ℕ). record { field = field.Sizes s; next = n; reader = record { stage = Events; step = 0 } }) on
-      ∙ sizes-read bytes place atFirst false payload (says .tag) (says .sizes) (sym (says .range)) refl
+      ∙ sizes-read bytes place atFirst false refl (says .tag) (says .sizes) (sym (says .range)) refl
       ∙ payload-whole head (says .whole)
       ∙ before-end bytes place atFirst (λ e. let z : _≡_ {A = ℕ} 0 1 = cc in omega arith))
     where
-      head : Headed bytes place atFirst (payloadOf sizesTag)
+      head : Headed bytes place atFirst (payloadAt bytes place)
       head =
           record {
             begins = omega (arith, says .whole);
-            says = ap payloadOf (sym (says .tag));
-            known = λ none. omega arith;
+            says = refl;
+            known = λ none. omega (arith, ap payloadOf (says .tag));
             placed = ap not (eq-eqb (byteAt bytes place) sizesTag (says .tag));
             long = says .long;
           }
@@ -241,17 +259,21 @@ module _ (bytes : List ℕ) (place : ℕ) where
 pub opens-here : (bytes : List ℕ) (place : ℕ) {s : Sizes} → readAt bytes place atFirst .field ≡ field.Sizes s → Opens (between bytes place (readAt bytes place atFirst .next)) s
 opens-here bytes place {s} is =
     let says = sizes-say bytes place s is in
-    let size : ℕ = 3 + payloadOf sizesTag in
+    let size : ℕ = 3 + payloadAt bytes place in
     let room : place + size ≤ length bytes = omega (arith, says .0 .whole) in
+    let out = alike-out bytes place size room in
+    let long : length (between bytes place (place + size)) ≡ size = simp (length-take, length-drop) (omega arith) in
     subst (λ (n : ℕ). Opens (between bytes place n) s) (sym (says .1))
     (record {
-      says = sizes-alike (alike-out bytes place size room) (says .0) (omega arith);
-      long = simp (length-take, length-drop) (omega arith);
+      says = sizes-alike out (says .0) (omega arith);
+      long = long ∙ ap (λ (n : ℕ). 3 + n) (sym (payload-alike out (omega arith)));
     })
 
 pub opens-there : (before behind : List ℕ) {bytes : List ℕ} {s : Sizes} → Opens bytes s
     → _≡_ {A = Read} (readAt (before ++ (bytes ++ behind)) (length before) atFirst)
     (record { field = field.Sizes s; next = length before + length bytes; reader = record { stage = Events; step = 0 } })
 opens-there before behind {bytes} {s} opens =
-    sizes-there (before ++ (bytes ++ behind)) (length before) (sizes-alike (alike-in before bytes behind) (opens .says) (omega (arith, opens .long)))
-    ∙ ap (λ (n : ℕ). record { field = field.Sizes s; next = length before + n; reader = record { stage = Events; step = 0 } }) (sym (opens .long))
+    let inside = alike-in before bytes behind in
+    sizes-there (before ++ (bytes ++ behind)) (length before) (sizes-alike inside (opens .says) (omega (arith, opens .long)))
+    ∙ ap (λ (n : ℕ). record { field = field.Sizes s; next = length before + n; reader = record { stage = Events; step = 0 } })
+    (ap (λ (n : ℕ). 3 + n) (payload-alike inside (omega (arith, opens .long))) ∙ sym (opens .long))

@@ -14,7 +14,7 @@ use Rattle.rules.specs.declared.Sizes.{Sizes}
 use Rattle.laws.proofs.Tests.{never, and-left, and-right, and-both}
 use Rattle.laws.proofs.Lists.{length-flatten}
 use Rattle.fields.specs.Field.{byteAt, EventSized}
-use Rattle.fields.proofs.Tags.{payload-most}
+use Rattle.fields.proofs.Tags.{tag-most}
 use Rattle.join.specs.declared.Next.{Next}
 use Rattle.join.specs.Part.{Part, whole, between, partsTold}
 use Rattle.join.specs.Joined.{allSized, allEvents, standTo}
@@ -82,7 +82,7 @@ module _ (parts lengths : List ℕ) (lent : Lent parts lengths) where
             part = omega (arith, lent .few);
             within = omega (arith, here .whole some .1, length-take (endOf lengths (x .part)) parts);
             follows = here .follows some;
-            short = omega (arith, here .whole some .0, payload-most (byteAt (partOf parts lengths (x .part)) (getD places (x .part) 0)));
+            short = omega (arith, here .whole some .0, tag-most (byteAt (partOf parts lengths (x .part)) (getD places (x .part) 0)));
             count = counts-most (x .part) inside;
           }
 

@@ -22,7 +22,7 @@ use Rattle.join.specs.Part.{Numbered, Part, whole, numberAt, expected, p
 use Rattle.join.specs.Joined.{allEvents, standTo, firstField, joinedTrace, endField, JoinedOn, writtenOn, joinedOn}
 use Rattle.join.specs.Merge.{startOf, partOf}
 use Rattle.fields.specs.declared.Stage.the-variants.{Events}
-use Rattle.fields.specs.Field.{byteAt, fourAt, sizesTag, endTag, payloadTest, WholeAt}
+use Rattle.fields.specs.Field.{byteAt, twoAt, fourAt, sizesTag, endTag, payloadAt, payloadTest, WholeAt}
 use Rattle.fields.proofs.Tags.{payload-least}
 use Rattle.join.specs.Promise.{partTest, traceTold, sizesField, traceOf, Dealt}
 use Rattle.join.proofs.Lengths.{Lent, all-lent}
@@ -42,18 +42,21 @@ use Rattle.join.proofs.Inverse.{joined-whole, whole-joined}
 -- A field of a part whose payload is whole is asked what the request says, and the tests before are document 01's own: a part is read by `readAt` with `expected` as the
 -- last step number.
 pub part-asks : (bytes : List ℕ) (place last events : ℕ) → WholeAt bytes place
-    → payloadTest (byteAt bytes place) bytes (place + 3) (record { stage = Events; step = expected bytes place last events })
-    ≡ partTest (byteAt bytes place) bytes (place + 3) last events
+    → payloadTest (byteAt bytes place) (payloadAt bytes place) bytes (place + 3) (record { stage = Events; step = expected bytes place last events })
+    ≡ partTest (byteAt bytes place) (payloadAt bytes place) bytes (place + 3) last events
 part-asks bytes place last events field = by-tag (eqb tag sizesTag) refl (eqb tag endTag) refl
   where
     tag : ℕ
     tag = byteAt bytes place
 
+    payload : ℕ
+    payload = payloadAt bytes place
+
     number : ℕ
     number = fourAt bytes (place + 3)
 
     is-number : number ≡ numberAt bytes place
-    is-number = number-there bytes place (omega (arith, field .whole, payload-least tag (field .tag)))
+    is-number = number-there bytes place (omega (arith, field .whole, payload-least tag (twoAt bytes (place + 1)) (field .tag)))
 
     -- the number is the one expected plus one exactly if it is above the previous one
     by-number : (eqb tag endTag ≡ false) → (b : Bool) → ltb last number ≡ b → not (eqb number (expected bytes place last events + 1)) ≡ not b
@@ -67,7 +70,7 @@ part-asks bytes place last events field = by-tag (eqb tag sizesTag) refl (eqb ta
         ap not (ne-eqb number (expected bytes place last events + 1) (λ e. omega arith))
 
     by-tag : (x : Bool) → eqb tag sizesTag ≡ x → (y : Bool) → eqb tag endTag ≡ y
-        → payloadTest tag bytes (place + 3) (record { stage = Events; step = expected bytes place last events }) ≡ partTest tag bytes (place + 3) last events
+        → payloadTest tag payload bytes (place + 3) (record { stage = Events; step = expected bytes place last events }) ≡ partTest tag payload bytes (place + 3) last events
     by-tag true isSizes y isEnd = rw isSizes
     by-tag false isSizes true isEnd =
         let count = sym (expects-end bytes place last events (eqb-true tag endTag isEnd)) in

@@ -28,12 +28,12 @@ use Rattle.fields.specs.declared.Field.{Field}
 use Rattle.fields.specs.declared.Field.the-variants as field
 use Rattle.fields.specs.declared.Reader.{Reader}
 use Rattle.fields.specs.declared.Read.{Read}
-use Rattle.fields.specs.Field.{byteAt, twoAt, fourAt, sizesTag, endTag, payloadOf, refusals, taken, readAt, EventSized}
+use Rattle.fields.specs.Field.{byteAt, twoAt, fourAt, sizesTag, endTag, payloadOf, payloadAt, refusals, taken, readAt, EventSized}
 use Rattle.fields.specs.Part.{isTaken}
-use Rattle.fields.proofs.Tags.{payload-least}
+use Rattle.fields.proofs.Tags.{tag-least, other-payload}
 use Rattle.fields.proofs.Taken.{read-holds}
 use Rattle.fields.proofs.Event.{Says, event-says, event-there}
-use borrow.Author.Tests.{eqb-true, not-false}
+use borrow.Author.Tests.{eqb-true, eqb-false, not-false}
 use Rattle.join.specs.declared.Seen.the-variants.{Whole, Refused}
 use Rattle.join.specs.Part.{Numbered, Told, refused, whole, also, expected, between, eventsTold}
 use Rattle.join.specs.Merge.{isWhole, endSeen, endsWith}
@@ -65,7 +65,7 @@ module _ {bytes : List ℕ} {place step size : ℕ} (sized : EventSized bytes pl
   pub expects : (last events : ℕ) → last ≤ step → step ≡ expected bytes place last events
   expects last events h =
       let says = says-here in
-      let long = payload-least (byteAt bytes place) (says .known) in
+      let long = tag-least (byteAt bytes place) (says .known) in
       let number : step + 1 ≡ _ = sym (says .next) ∙ number-there bytes place (omega (arith, says .whole)) in
       (let one : step ≡ step + 1 - 1 = omega arith in one) ∙ expects-next bytes place last events (says .no-end) number (omega arith)
 
@@ -173,11 +173,11 @@ module _ (bytes : List ℕ) (place step : ℕ) where
           absurd (let z : _≡_ {A = ℕ} 0 1 = cc in omega arith)
       by-tag false isSizes true isEnd passed h =
           let is = eqb-true tag endTag isEnd in
-          let payload : payloadOf tag ≡ 4 = ap payloadOf is ∙ end-payload in
+          let payload : payloadAt bytes place ≡ 4 = other-payload tag (twoAt bytes (place + 1)) (eqb-false tag sizesTag isSizes) ∙ ap payloadOf is ∙ end-payload in
           let test = rw (isSizes, isEnd) at (passed .1 .1 .1 .1 .0) in
           record {
             tag = is;
-            long = eqb-true (twoAt bytes (place + 1)) (payloadOf tag) (not-false _ (passed .1 .1 .0)) ∙ payload;
+            long = eqb-true (twoAt bytes (place + 1)) (payloadAt bytes place) (not-false _ (passed .1 .1 .0)) ∙ payload;
             count = eqb-true (fourAt bytes (place + 3)) step (not-false _ test);
             next-is = rw (isSizes, isEnd) (omega (arith, payload));
           }

@@ -20,10 +20,10 @@ use Rattle.fields.specs.declared.Stage.the-variants.{Events, Ended}
 use Rattle.fields.specs.declared.Field.the-variants as field
 use Rattle.fields.specs.declared.Reader.{Reader}
 use Rattle.fields.specs.declared.Read.{Read}
-use Rattle.fields.specs.Field.{byteAt, fourAt, sizesTag, endTag, payloadOf, readAt}
+use Rattle.fields.specs.Field.{byteAt, twoAt, fourAt, sizesTag, endTag, payloadOf, payloadAt, readAt}
 use Rattle.fields.proofs.Order.{Headed, payload-whole, before-end, behind-end}
 use Rattle.fields.proofs.Payload.{end-read}
-use Rattle.fields.proofs.Tags.{payload-least}
+use Rattle.fields.proofs.Tags.{tag-least, other-payload}
 use Rattle.fields.proofs.Event.{Says, event-there}
 use Rattle.join.specs.Part.{Numbered, Told, refused, whole, also, between, numberAt, expected, eventsTold, partTold}
 use Rattle.join.specs.Joined.{endField}
@@ -58,7 +58,7 @@ module _ (before behind : List ℕ) (n : ℕ) where
   end-there =
       sym
       (ap (λ (m : ℕ). record { field = field.End; next = m; reader = record { stage = Ended; step = n } }) (let e : place + 7 ≡ place + 3 + 4 = omega arith in e)
-      ∙ end-read bytes place (record { stage = Events; step = n }) false (ap payloadOf (sym end-tag-there)) (λ e. omega (arith, end-tag-there)) (sym number) end-tag-there
+      ∙ end-read bytes place (record { stage = Events; step = n }) false long (λ e. omega (arith, end-tag-there)) (sym number) end-tag-there
       (ap not (eq-eqb n n refl))
       ∙ payload-whole head (omega (arith, alike .inside))
       ∙ before-end bytes place (record { stage = Events; step = n }) (λ e. let z : _≡_ {A = ℕ} 0 1 = cc in omega arith))
@@ -68,6 +68,9 @@ module _ (before behind : List ℕ) (n : ℕ) where
 
       at : (i k : ℕ) → i ≡ place + k → k < 7 → byteAt bytes i ≡ byteAt (endField n) k
       at i k e h = alike .byte k i k (omega arith) e h
+
+      long : 4 ≡ payloadAt bytes place
+      long = ap payloadOf (sym end-tag-there) ∙ sym (other-payload (byteAt bytes place) (twoAt bytes (place + 1)) (λ e. omega (arith, end-tag-there)))
 
       number : fourAt bytes (place + 3) ≡ n
       number =
@@ -83,8 +86,8 @@ module _ (before behind : List ℕ) (n : ℕ) where
       head =
           record {
             begins = omega (arith, alike .inside);
-            says = ap payloadOf (sym end-tag-there);
-            known = λ none. omega arith;
+            says = long;
+            known = λ none. omega (arith, ap payloadOf end-tag-there);
             placed = ap (λ (t : ℕ). eqb t sizesTag) end-tag-there;
             long = omega (arith, at (place + 1) 1 refl (omega arith), at (place + 1 + 1) 2 (omega arith) (omega arith));
           }
@@ -259,7 +262,7 @@ event-told : (behind all : List ℕ) (e : Numbered) (events : List Numbered) (la
     ≡ also (λ more. e ∷ more) (eventsTold turns all (length before + length (e .bytes)) (e .number) (count + 1))
 event-told behind all e events last count before turns is formed above =
     let says = says-here e events before behind all is formed in
-    let long = payload-least (byteAt all (length before)) (says .known) in
+    let long = tag-least (byteAt all (length before)) (says .known) in
     let number : formed .step + 1 ≡ numberAt all (length before) = sym (says .next) ∙ number-there all (length before) (omega (arith, says .whole)) in
     let expects : formed .step ≡ expected all (length before) last count =
     (let one : formed .step ≡ formed .step + 1 - 1 = omega arith in one)

@@ -82,7 +82,7 @@ module _ (bytes : List ℕ) (start : ℕ) where
 -- ---- all parts
 
 abbrev pub noPart : Part
-noPart = record { sizes = record { n = 0; k = 0; w = 0; r = 0 }; field = []; events = [] }
+noPart = record { sizes = record { n = 0; k = 0; w = 0; r = 0; b = 0 }; field = []; events = [] }
 
 and-whole : (part : Told Part) (more : Told (List Part)) {told : List Part} → andParts part more ≡ whole told
     → (p : Part) × (part ≡ whole p) × ((ps : List Part) × (more ≡ whole ps) × ((p ∷ ps) ≡ told))

@@ -32,8 +32,9 @@ endToEnd parts lengths = leb 1 (length lengths) && leb (length lengths) 9 && eqb
 
 -- ---- the sizes
 
+-- all five by value: "length 8 means B = 0" (document 02, request 5), so that such a field and one of length 10 with B = 0 have equal sizes
 unfoldable pub equalSizes : Sizes → Sizes → Bool
-equalSizes s t = eqb (s .n) (t .n) && eqb (s .k) (t .k) && eqb (s .w) (t .w) && eqb (s .r) (t .r)
+equalSizes s t = eqb (s .n) (t .n) && eqb (s .k) (t .k) && eqb (s .w) (t .w) && eqb (s .r) (t .r) && eqb (s .b) (t .b)
 
 unfoldable pub allSized : Sizes → List Part → Bool
 allSized s [] = true
@@ -75,7 +76,7 @@ inOrder (suc n) all = inOrder n all ++ fieldOf (suc n) all
 unfoldable pub endField : ℕ → List ℕ
 endField n = endTag ∷ 0 ∷ 4 ∷ n / 16777216 ∷ n / 65536 % 256 ∷ n / 256 % 256 ∷ n % 256 ∷ []
 
--- "the first part's sizes field"
+-- "the first part's sizes field", of length 8 or 10 as it stands there
 unfoldable pub firstField : List Part → List ℕ
 firstField [] = []
 firstField (p ∷ parts) = p .field

@@ -63,7 +63,7 @@ abbrev pub atFirst : Reader
 atFirst = record { stage = First; step = 0 }
 
 abbrev pub noSizes : Sizes
-noSizes = record { n = 0; k = 0; w = 0; r = 0 }
+noSizes = record { n = 0; k = 0; w = 0; r = 0; b = 0 }
 
 unfoldable pub sizesOf : List ℕ → ℕ → Sizes
 sizesOf bytes start =

@@ -22,10 +22,10 @@ use Rattle.join.specs.Merge.{atFirst}
 
 -- "then 1 for sizes, 10 for an event, 12 for the end .., where 10 now means not above the part's previous number (0 before the first) and 12 a wrong count of its
 -- events": what is asked of the payload of a field in a part, behind its previous number and so many events
-abbrev pub partTest : ℕ → List ℕ → ℕ → ℕ → ℕ → Test
-partTest tag bytes i last events =
+abbrev pub partTest : ℕ → ℕ → List ℕ → ℕ → ℕ → ℕ → Test
+partTest tag payload bytes i last events =
     cond (eqb tag sizesTag)
-    (record { when = not (inRange (sizesAt bytes i)); why = WrongSize })
+    (record { when = not (inRange (sizesAt bytes i payload)); why = WrongSize })
     (cond (eqb tag endTag)
     (record { when = not (eqb (fourAt bytes i) events); why = WrongCount })
     (record { when = not (ltb last (fourAt bytes i)); why = WrongStep }))

@@ -71,10 +71,11 @@ fn end_to_end(parts: &[u8], lengths: &[u64]) -> bool
     left == 0
 }
 
+// All five by value: a sizes field of length 8 and one of length 10 with B = 0 are alike.
 fn equal_sizes(s: Sizes, t: Sizes) -> bool
     ensures { λ x. ⌜ x ≡ equalSizes s t ⌝ }
 {
-    (s.n == t.n) & (s.k == t.k) & (s.w == t.w) & (s.r == t.r)
+    (s.n == t.n) & (s.k == t.k) & (s.w == t.w) & (s.r == t.r) & (s.b == t.b)
 }
 
 // The number that a field begins with; 0 where its bytes are not there.
@@ -198,6 +199,7 @@ fn sizes_of(bytes: &[u8], start: usize) -> Sizes
         k: 0,
         w: 0,
         r: 0,
+        b: 0,
     }
 }
 

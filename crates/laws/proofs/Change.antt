@@ -1,6 +1,6 @@
 -- What an event leaves as it was.
 --     logged-keeps    what adding an entry to a log leaves, logging leaves
---     stored-has      what holds of the pool that a store leaves, whether it logs and snoops or not
+--     stored-has      what holds of the pool that a link's taking a value leaves, whether it is logged and snooped or not: a store, a post
 --     emptied-has, emptied-keeps     what emptying one link keeps, emptying the links of a record keeps
 --     emptied-values, emptied-other, emptied-none  and each link then holds what it held, or none: none if it is the record's, else what it held
 --     frees-collector, frees-history, frees-workers, frees-changed     so freeing leaves these
@@ -18,11 +18,11 @@ use Rattle.rules.specs.declared.RecordNumber.{RecordNumber}
 use Rattle.rules.specs.declared.LinkNumber.{LinkNumber}
 use Rattle.rules.specs.Size.{linkNumber}
 use Rattle.rules.specs.Pool.{Pool, none, withRecord, valueAt, changedAt, registerAt, snoopsAt, withHeld, withValue}
-use Rattle.rules.specs.Worker.{mustLog, added, logged, snooped, stores}
+use Rattle.rules.specs.Worker.{mustLog, added, logged, snooped, linkTakes}
 use Rattle.rules.specs.Collect.{falls, emptied, emptiedFrom, frees}
 use Rattle.laws.proofs.Lists.{set-cases}
 
--- ---- a store
+-- ---- a store, a post
 
 -- what adding an entry leaves, logging leaves
 pub logged-keeps : {A : Type 0} (field : Pool → A) (w : ℕ) (l : LinkNumber) (p : Pool) → field (added w l p) ≡ field p → field (logged w l p) ≡ field p
@@ -33,10 +33,7 @@ logged-keeps field w l p h = by-mark (mustLog p l)
     by-mark true = h
     by-mark false = refl
 
-module _ (s : Sizes) (p : Pool) (w q f r : ℕ) where
-  abbrev link : LinkNumber
-  link = linkNumber s (registerAt p w q) f
-
+module _ (p : Pool) (w : ℕ) (link : LinkNumber) (r : ℕ) where
   abbrev new : RecordNumber
   new = registerAt p w r
 
@@ -44,8 +41,8 @@ module _ (s : Sizes) (p : Pool) (w q f r : ℕ) where
       → (snoopsAt p w ≡ true → (t : Pool) → P t → P (withHeld (withRecord (p .records .held) (new .0) true) t))
       → (changedAt p link ≡ false → P (withValue link new (added w link p)))
       → (changedAt p link ≡ true → P (withValue link new p))
-      → P (stores s w q f r p .pool)
-  unfolding stores snooped logged added
+      → P (linkTakes w link r p .pool)
+  unfolding linkTakes snooped logged added
   stored-has P held log plain = by-mark (changedAt p link) refl
     where
       by-snoop : (t : Pool) → P t → (b : Bool) → snoopsAt p w ≡ b → P (cond b (withHeld (withRecord (p .records .held) (new .0) true) t) t)

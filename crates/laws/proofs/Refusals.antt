@@ -4,8 +4,8 @@
 --     decide-first, decide-next, decide-all     the outcome itself, test by test
 --     RegisterThere, LinkThere     the worker and its register, the link of the record that a register holds are there
 --     hasNumbers              every number of a load or a store is there
---     register-there, registers-there, numbers-there     the test of an event that they are
---     can-make, can-load, can-store   what is known where none of the tests of an event is true
+--     register-there, registers-there, numbers-there, entry-there     the test of an event that they are
+--     can-make, can-load, can-store, can-look, can-post     what is known where none of the tests of an event is true
 -- Assumes nothing.
 use Prim.Native.Nat.{ℕ, _≤_, _<_}
 use mathlib.Core.Path.{_≡_, refl, ap, _∙_}
@@ -15,11 +15,11 @@ use native.Mathlib.Omega.{arith}
 use borrow.Author.Tests.{ltb-true, eqb-false, not-false}
 use Rattle.rules.specs.declared.Sizes.{Sizes}
 use Rattle.rules.specs.declared.Refusal.{Refusal}
-use Rattle.rules.specs.declared.Event.the-variants.{Make, Load, Store}
+use Rattle.rules.specs.declared.Event.the-variants.{Make, Load, Store, Look, Post}
 use Rattle.rules.specs.Pool.{Pool, registerAt}
 use Rattle.rules.specs.Reply.{Outcome}
 use Rattle.rules.specs.Worker.{chosen}
-use Rattle.rules.specs.Outcome.{Test, noSuch, hasWorker, hasRegister, hasLink, holdsNone, noneFree, refusals, refused, decide}
+use Rattle.rules.specs.Outcome.{Test, noSuch, hasWorker, hasRegister, hasLink, hasEntry, holdsNone, noneFree, refusals, refused, decide}
 use Rattle.rules.specs.Sound.{Each}
 use Rattle.laws.proofs.Tests.{and-left, and-right}
 
@@ -88,6 +88,11 @@ numbers-there s w q r f all =
     let both = registers-there s w q r (and-left _ (hasLink s f) all) in
     (both .0, both .1, ltb-true f (s .k) (and-right (hasWorker s w && (hasRegister s q && hasRegister s r)) _ all))
 
+-- every number of a look or a post is there
+pub entry-there : (s : Sizes) (w r e : ℕ) → (hasWorker s w && hasRegister s r && hasEntry s e) ≡ true → RegisterThere s w r × (e < s .b)
+entry-there s w r e all =
+    (register-there s w r (and-left _ (hasEntry s e) all), ltb-true e (s .b) (and-right (hasWorker s w && hasRegister s r) _ all))
+
 module _ (s : Sizes) (p : Pool) where
   -- "holds none" is not so
   holds : (w q : ℕ) → (registerAt p w q .0 ≡ 0 → ⊥) → 1 ≤ registerAt p w q .0
@@ -117,3 +122,15 @@ module _ (s : Sizes) (p : Pool) where
   pub can-store : (w q f r : ℕ) → Unrefused (refusals s p (Store w q f r)) → RegisterThere s w q × (r < s .r) × LinkThere s p w q f
   unfolding refusals
   can-store w q f r t = can-reach w q r f t
+
+  -- the tests of a look and of a post
+  can-enter : (w r e : ℕ) → Unrefused (noSuch (hasWorker s w) (hasRegister s r) (hasEntry s e)) → RegisterThere s w r × (e < s .b)
+  can-enter w r e t = (there s w r (not-false _ (t .0)) (not-false _ (t .1 .0)), ltb-true e (s .b) (not-false _ (t .1 .1 .0)))
+
+  pub can-look : (w r e : ℕ) → Unrefused (refusals s p (Look w r e)) → RegisterThere s w r × (e < s .b)
+  unfolding refusals
+  can-look w r e t = can-enter w r e t
+
+  pub can-post : (w e r : ℕ) → Unrefused (refusals s p (Post w e r)) → RegisterThere s w r × (e < s .b)
+  unfolding refusals
+  can-post w e r t = can-enter w r e t

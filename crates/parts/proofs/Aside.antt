@@ -1,4 +1,4 @@
--- The arrays before the first field: "sets aside 256 links, all none, before the first field".
+-- The arrays before the first field: "sets aside 256 links, all none, before the first field", and 8 board entries.
 --     atRest             the collector's record of a fresh pool
 --     aside-is-fresh     a fresh pool of any sizes that the program takes lies at their beginnings
 --     aside-known        it is a sound pool
@@ -43,12 +43,12 @@ module _ (s : Sizes) (h : isSmall s ≡ true) where
         held = take-zeros (s .n) 64 (omega (arith, small s h .n)) j;
         candidates = take-zeros (s .n) 64 (omega (arith, small s h .n)) j;
         makers = take-zeros (s .n) 64 (omega (arith, small s h .n)) j;
-        values = take-zeros (links s) 256 (links-few s h) j;
-        changed = take-zeros (links s) 256 (links-few s h) j;
+        values = take-zeros (links s) 264 (links-few s h) j;
+        changed = take-zeros (links s) 264 (links-few s h) j;
         registers = take-zeros (s .w * s .r + 1) 33 (registers-few s h) j;
         snoops = take-zeros (s .w) 4 (omega (arith, small s h .w)) j;
-        logs = take-zeros (s .w * room s) 2048 (logs-few s h) j;
-        history = take-zeros (room s) 512 (omega (arith, links-few s h)) j;
+        logs = take-zeros (s .w * room s) 2112 (logs-few s h) j;
+        history = take-zeros (room s) 528 (omega (arith, links-few s h)) j;
         lengths = take-zeros (s .w + 1) 5 (omega (arith, small s h .w)) j;
       })
       ∙ sym (fresh-zero s)

@@ -10,10 +10,10 @@ use mathlib.Core.Bool.{Bool, true, false, cond, not, _||_}
 use mathlib.Core.List.{List, [], _∷_, _++_, append-nil}
 use native.Mathlib.Omega.{arith}
 use native.Mathlib.Nat.{zero-add}
-use borrow.Author.Tests.{ltb-false, le-ltb, eqb-false}
+use borrow.Author.Tests.{ltb-false, le-ltb, eqb-true, eqb-false}
 use lib.Dec.{eqb, ltb}
 use lib.ListN.{length, take, drop, length-append, length-take, take-append-drop, List·getD-append}
-use Rattle.rules.specs.declared.Event.the-variants.{Make, Move, Drop, Load, Store}
+use Rattle.rules.specs.declared.Event.the-variants.{Make, Move, Drop, Load, Store, Look, Post}
 use Rattle.rules.specs.declared.Refusal.the-variants.{WrongSize, WrongStep, WrongCount}
 use Rattle.rules.specs.Size.{inRange}
 use Rattle.rules.specs.Outcome.{Test}
@@ -25,9 +25,9 @@ use Rattle.fields.specs.declared.Reader.{Reader}
 use Rattle.fields.specs.declared.Field.{Field}
 use Rattle.fields.specs.declared.Field.the-variants as field
 use Rattle.fields.specs.declared.Read.{Read}
-use Rattle.fields.specs.Field.{byteAt, twoAt, fourAt, sizesTag, endTag, payloadOf, sizesAt, eventAt, misplaced, payloadTest, refusals, refusedAt, decide, taken, behindEnd, WholeAt, fieldAt, readAt}
+use Rattle.fields.specs.Field.{byteAt, twoAt, fourAt, sizesTag, endTag, payloadOf, payloadFor, payloadAt, boardAt, sizesAt, eventAt, misplaced, payloadTest, refusals, refusedAt, decide, taken, behindEnd, WholeAt, fieldAt, readAt}
 use Rattle.fields.specs.Part.{longest, movedField, moved, isTaken}
-use Rattle.fields.proofs.Tags.{either, payload-least}
+use Rattle.fields.proofs.Tags.{either, payload-least, sizes-payload, other-payload}
 use Rattle.fields.proofs.Order.{at-stage}
 use Rattle.fields.proofs.Part.{read-in-part}
 
@@ -76,13 +76,19 @@ module _ (tag : ℕ) (other : eqb tag sizesTag ≡ false) where
         unfolding payloadOf
         load-long load = rw (other, make, move, drops, load)
 
-        store-long : eqb tag 0x13 ≡ false → eqb tag 0x14 ≡ true → payloadOf tag ≡ 8
-        unfolding payloadOf
-        store-long load store = rw (other, make, move, drops, load, store)
+        module _ (load : eqb tag 0x13 ≡ false) where
+          store-long : eqb tag 0x14 ≡ true → payloadOf tag ≡ 8
+          unfolding payloadOf
+          store-long store = rw (other, make, move, drops, load, store)
 
-sizes-long : (tag : ℕ) → eqb tag sizesTag ≡ true → payloadOf tag ≡ 8
-unfolding payloadOf
-sizes-long tag h = rw h
+          module _ (store : eqb tag 0x14 ≡ false) where
+            look-long : eqb tag 0x15 ≡ true → payloadOf tag ≡ 7
+            unfolding payloadOf
+            look-long look = rw (other, make, move, drops, load, store, look)
+
+            post-long : eqb tag 0x15 ≡ false → eqb tag 0x16 ≡ true → payloadOf tag ≡ 7
+            unfolding payloadOf
+            post-long look post = rw (other, make, move, drops, load, store, look, post)
 
 -- ---- a field that is whole in the part
 
@@ -90,16 +96,19 @@ module _ (part more : List ℕ) (i : ℕ) (lies : WholeAt part i) where
   abbrev tag : ℕ
   tag = byteAt part i
 
-  whole : i + 3 + payloadOf tag ≤ length part
+  abbrev payload : ℕ
+  payload = payloadAt part i
+
+  whole : i + 3 + payload ≤ length part
   whole = lies .whole
 
-  some : 4 ≤ payloadOf tag
-  some = payload-least tag (lies .tag)
+  some : 4 ≤ payload
+  some = payload-least tag (twoAt part (i + 1)) (lies .tag)
 
-  byte-same : (j : ℕ) → j < i + 3 + payloadOf tag → byteAt (part ++ more) j ≡ byteAt part j
+  byte-same : (j : ℕ) → j < i + 3 + payload → byteAt (part ++ more) j ≡ byteAt part j
   byte-same j inside = List·getD-append part more 0 j (omega (arith, whole))
 
-  two-same : (j : ℕ) → j + 2 ≤ i + 3 + payloadOf tag → twoAt (part ++ more) j ≡ twoAt part j
+  two-same : (j : ℕ) → j + 2 ≤ i + 3 + payload → twoAt (part ++ more) j ≡ twoAt part j
   two-same j inside = λ k. byte-same j (omega arith) k * 256 + byte-same (j + 1) (omega arith) k
 
   four-same : fourAt (part ++ more) (i + 3) ≡ fourAt part (i + 3)
@@ -108,22 +117,32 @@ module _ (part more : List ℕ) (i : ℕ) (lies : WholeAt part i) where
   tag-same : byteAt (part ++ more) i ≡ tag
   tag-same = byte-same i (omega arith)
 
-  sizes-same : eqb tag sizesTag ≡ true → sizesAt (part ++ more) (i + 3) ≡ sizesAt part (i + 3)
+  long-same : twoAt (part ++ more) (i + 1) ≡ twoAt part (i + 1)
+  long-same = two-same (i + 1) (omega (arith, some))
+
+  payload-same : payloadAt (part ++ more) i ≡ payload
+  payload-same = λ k. payloadFor (tag-same k) (long-same k)
+
+  board-same : boardAt (part ++ more) (i + 3) payload ≡ boardAt part (i + 3) payload
+  board-same = same-choice (eqb payload 10) (λ ten. let long = eqb-true payload 10 ten in two-same (i + 3 + 8) (omega arith)) (λ none. refl)
+
+  sizes-same : eqb tag sizesTag ≡ true → sizesAt (part ++ more) (i + 3) payload ≡ sizesAt part (i + 3) payload
   sizes-same isSizes =
-      let long = sizes-long tag isSizes in
+      let long = sizes-payload tag (twoAt part (i + 1)) (eqb-true tag sizesTag isSizes) in
       λ k. record {
         n = two-same (i + 3) (omega arith) k;
         k = two-same (i + 3 + 2) (omega arith) k;
         w = two-same (i + 3 + 4) (omega arith) k;
         r = two-same (i + 3 + 6) (omega arith) k;
+        b = board-same k;
       }
-
-  argument-same : (j : ℕ) → 4 + j < payloadOf tag → byteAt (part ++ more) (i + 3 + 4 + j) ≡ byteAt part (i + 3 + 4 + j)
-  argument-same j inside = byte-same (i + 3 + 4 + j) (omega arith)
 
   event-same : eqb tag sizesTag ≡ false → eventAt tag (part ++ more) (i + 3 + 4) ≡ eventAt tag part (i + 3 + 4)
   unfolding eventAt
   event-same other =
+      let same : payload ≡ payloadOf tag = other-payload tag (twoAt part (i + 1)) (eqb-false tag sizesTag other) in
+      let argument-same : (j : ℕ) → 4 + j < payloadOf tag → byteAt (part ++ more) (i + 3 + 4 + j) ≡ byteAt part (i + 3 + 4 + j) =
+      (λ j inside. byte-same (i + 3 + 4 + j) (omega arith)) in
       same-choice (eqb tag 0x10)
       (λ make. let long = make-long tag other make in λ k. Make (argument-same 0 (omega arith) k) (argument-same 1 (omega arith) k))
       (λ make. same-choice (eqb tag 0x11)
@@ -140,11 +159,20 @@ module _ (part more : List ℕ) (i : ℕ) (lies : WholeAt part i) where
       (λ store.
       let long = store-long tag other make move drops load store in
       λ k. Store (argument-same 0 (omega arith) k) (argument-same 1 (omega arith) k) (argument-same 2 (omega arith) k) (argument-same 3 (omega arith) k))
-      (λ store. refl)))))
+      (λ store. same-choice (eqb tag 0x15)
+      (λ look.
+      let long = look-long tag other make move drops load store look in
+      λ k. Look (argument-same 0 (omega arith) k) (argument-same 1 (omega arith) k) (argument-same 2 (omega arith) k))
+      (λ look. same-choice (eqb tag 0x16)
+      (λ post.
+      let long = post-long tag other make move drops load store look post in
+      λ k. Post (argument-same 0 (omega arith) k) (argument-same 1 (omega arith) k) (argument-same 2 (omega arith) k))
+      (λ post. refl)))))))
 
-  test-same : (reader : Reader) → payloadTest (byteAt (part ++ more) i) (part ++ more) (i + 3) reader ≡ payloadTest tag part (i + 3) reader
+  test-same : (reader : Reader)
+      → payloadTest (byteAt (part ++ more) i) (payloadAt (part ++ more) i) (part ++ more) (i + 3) reader ≡ payloadTest tag payload part (i + 3) reader
   test-same reader =
-      ap (λ (t : ℕ). payloadTest t (part ++ more) (i + 3) reader) tag-same
+      (λ k. payloadTest (tag-same k) (payload-same k) (part ++ more) (i + 3) reader)
       ∙ same-choice (eqb tag sizesTag)
       (λ isSizes. λ k. record { when = not (inRange (sizes-same isSizes k)); why = WrongSize })
       (λ other. same-choice (eqb tag endTag)
@@ -154,15 +182,15 @@ module _ (part more : List ℕ) (i : ℕ) (lies : WholeAt part i) where
   taken-same : (reader : Reader) → taken (part ++ more) i reader ≡ taken part i reader
   unfolding taken
   taken-same reader =
-      rw tag-same
+      rw (tag-same, long-same)
       (same-choice (eqb tag sizesTag)
-      (λ isSizes. λ k. record { field = field.Sizes (sizes-same isSizes k); next = i + 3 + payloadOf tag; reader = record { stage = Events; step = 0 } })
+      (λ isSizes. λ k. record { field = field.Sizes (sizes-same isSizes k); next = i + 3 + payload; reader = record { stage = Events; step = 0 } })
       (λ other. same-choice (eqb tag endTag)
       (λ isEnd. refl)
       (λ event. λ k.
       record {
         field = field.Event (four-same k) (event-same other k);
-        next = i + 3 + payloadOf tag;
+        next = i + 3 + payload;
         reader = record { stage = Events; step = four-same k };
       })))
 
@@ -174,10 +202,10 @@ module _ (part more : List ℕ) (i : ℕ) (lies : WholeAt part i) where
         (
           (λ k. eqb (payloadOf (tag-same k)) 0 || misplaced (reader .stage) (tag-same k)) ∙ passed .1 .0,
           (
-            (λ k. not (eqb (two-same (i + 1) (omega arith) k) (payloadOf (tag-same k)))) ∙ passed .1 .1 .0,
+            (λ k. not (eqb (long-same k) (payload-same k))) ∙ passed .1 .1 .0,
             (
-              ap (λ (t : ℕ). ltb (length (part ++ more)) (i + 3 + payloadOf t)) tag-same
-                  ∙ le-ltb (length (part ++ more)) (i + 3 + payloadOf tag) (omega (arith, whole)),
+              ap (λ (n : ℕ). ltb (length (part ++ more)) (i + 3 + n)) payload-same
+                  ∙ le-ltb (length (part ++ more)) (i + 3 + payload) (omega (arith, whole)),
               (
                 ap (λ (t : Test). t .when) (test-same reader) ∙ passed .1 .1 .1 .1 .0,
                 tt,
@@ -196,7 +224,7 @@ module _ (part more : List ℕ) (i : ℕ) (reader : Reader) where
   lies-whole passed =
       record {
         tag = eqb-false (payloadOf (byteAt part i)) 0 (or-left _ (misplaced (reader .stage) (byteAt part i)) (passed .1 .0));
-        whole = ltb-false (length part) (i + 3 + payloadOf (byteAt part i)) (passed .1 .1 .1 .0);
+        whole = ltb-false (length part) (i + 3 + payloadAt part i) (passed .1 .1 .1 .0);
       }
 
   field-same : isTaken (fieldAt part i reader .field) ≡ true → fieldAt (part ++ more) i reader ≡ fieldAt part i reader

@@ -35,12 +35,13 @@ use Rattle.parts.specs.Arrays.{isSmall, front, Long, Runs}
 
 -- ---- the sizes
 
--- "it takes N up to 64, K up to 4, W up to 4, R up to 8"
+-- "it takes N up to 64, K up to 4, W up to 4, R up to 8", and "B up to 8" (document 02, request 5)
 pub record Small (s : Sizes) : Type 0 where
   pub n : s .n ≤ 64
   pub k : s .k ≤ 4
   pub w : s .w ≤ 4
   pub r : s .r ≤ 8
+  pub b : s .b ≤ 8
 
 pub small : (s : Sizes) → isSmall s ≡ true → Small s
 unfolding isSmall
@@ -49,26 +50,28 @@ small s h =
     let k : Bool = leb (s .k) 4 in
     let w : Bool = leb (s .w) 4 in
     let r : Bool = leb (s .r) 8 in
-    let nkw : (n && k && w) ≡ true = and-left (n && k && w) r h in
+    let nkwr : (n && k && w && r) ≡ true = and-left (n && k && w && r) (leb (s .b) 8) h in
+    let nkw : (n && k && w) ≡ true = and-left (n && k && w) r nkwr in
     let nk : (n && k) ≡ true = and-left (n && k) w nkw in
     record {
       n = leb-true (s .n) 64 (and-left n k nk);
       k = leb-true (s .k) 4 (and-right n k nk);
       w = leb-true (s .w) 4 (and-right (n && k) w nkw);
-      r = leb-true (s .r) 8 (and-right (n && k && w) r h);
+      r = leb-true (s .r) 8 (and-right (n && k && w) r nkwr);
+      b = leb-true (s .b) 8 (and-right (n && k && w && r) (leb (s .b) 8) h);
     }
 
 -- how much room they take
 module _ (s : Sizes) (h : isSmall s ≡ true) where
-  pub links-few : links s ≤ 256
+  pub links-few : links s ≤ 264
   unfolding links
-  links-few = omega (arith, mul-le-mul-left (s .n) (small s h .k), small s h .n)
+  links-few = omega (arith, mul-le-mul-left (s .n) (small s h .k), small s h .n, small s h .b)
 
   pub registers-few : s .w * s .r + 1 ≤ 33
   registers-few = omega (arith, mul-le-mul-left (s .w) (small s h .r), small s h .w)
 
-  pub logs-few : s .w * room s ≤ 2048
-  logs-few = omega (arith, mul-le-mul-left (s .w) (let few : room s ≤ 512 = omega (arith, links-few) in few), small s h .w)
+  pub logs-few : s .w * room s ≤ 2112
+  logs-few = omega (arith, mul-le-mul-left (s .w) (let few : room s ≤ 528 = omega (arith, links-few) in few), small s h .w)
 
 pub record Within (s : Sizes) (t : Tables) : Type 0 where
   pub used : s .n ≤ length (t .used)

@@ -29,9 +29,9 @@ use Rattle.parts.specs.declared.Progress.{Progress}
 use Rattle.parts.specs.declared.Part.{Part}
 use Rattle.parts.specs.Part.{Taken}
 
--- "it takes N up to 64, K up to 4, W up to 4, R up to 8"
+-- "it takes N up to 64, K up to 4, W up to 4, R up to 8", and "`replay` takes B up to 8" (document 02, request 5)
 unfoldable pub isSmall : Sizes → Bool
-isSmall s = leb (s .n) 64 && leb (s .k) 4 && leb (s .w) 4 && leb (s .r) 8
+isSmall s = leb (s .n) 64 && leb (s .k) 4 && leb (s .w) 4 && leb (s .r) 8 && leb (s .b) 8
 
 unfoldable pub front : Sizes → Tables → Tables
 front s t =
@@ -63,15 +63,15 @@ pub record Long (t : Tables) : Type 0 where
   pub held : length (t .held) ≡ 64
   pub candidates : length (t .candidates) ≡ 64
   pub makers : length (t .makers) ≡ 64
-  pub values : length (t .values) ≡ 256
-  pub changed : length (t .changed) ≡ 256
+  pub values : length (t .values) ≡ 264
+  pub changed : length (t .changed) ≡ 264
   pub registers : length (t .registers) ≡ 33
   pub snoops : length (t .snoops) ≡ 4
-  pub logs : length (t .logs) ≡ 2048
-  pub history : length (t .history) ≡ 512
+  pub logs : length (t .logs) ≡ 2112
+  pub history : length (t .history) ≡ 528
   pub lengths : length (t .lengths) ≡ 5
 
--- "sets aside 256 links, all none, before the first field"
+-- "sets aside 256 links, all none, before the first field", and with these 8 board entries (document 02, request 5)
 unfoldable pub aside : Tables
 aside =
     record {
@@ -80,12 +80,12 @@ aside =
       held = replicate 64 0;
       candidates = replicate 64 0;
       makers = replicate 64 0;
-      values = replicate 256 0;
-      changed = replicate 256 0;
+      values = replicate 264 0;
+      changed = replicate 264 0;
       registers = replicate 33 0;
       snoops = replicate 4 0;
-      logs = replicate 2048 0;
-      history = replicate 512 0;
+      logs = replicate 2112 0;
+      history = replicate 528 0;
       lengths = replicate 5 0;
     }
 

@@ -61,11 +61,11 @@ pub struct PartText {
     pub size: usize,
 }
 
-// "it takes N up to 64, K up to 4, W up to 4, R up to 8, and answers 1 beyond"
+// "it takes N up to 64, K up to 4, W up to 4, R up to 8, and answers 1 beyond"; "`replay` takes B up to 8" (document 02, request 5)
 fn is_small(s: Sizes) -> bool
     ensures { λ x. ⌜ x ≡ isSmall s ⌝ }
 {
-    (s.n <= 64) & (s.k <= 4) & (s.w <= 4) & (s.r <= 8)
+    (s.n <= 64) & (s.k <= 4) & (s.w <= 4) & (s.r <= 8) & (s.b <= 8)
 }
 
 // The events that stand one after another from a place on, on the pool at the arrays' beginnings.
@@ -101,7 +101,7 @@ fn run_front(
 {
     let n = s.n as usize;
     let w = s.w as usize;
-    let links = n * (s.k as usize);
+    let links = n * (s.k as usize) + (s.b as usize);
     let all = w * (s.r as usize) + 1;
     let room = links * 2;
     let rooms = w * room;

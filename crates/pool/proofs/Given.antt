@@ -11,10 +11,10 @@ use borrow.Author.Tests.{eqb-false}
 use lib.Dec.{eqb}
 use Rattle.rules.specs.declared.Sizes.{Sizes}
 use Rattle.rules.specs.declared.Event.{Event}
-use Rattle.rules.specs.declared.Event.the-variants.{Make, Move, Drop, Load, Store, Collect}
+use Rattle.rules.specs.declared.Event.the-variants.{Make, Move, Drop, Load, Store, Look, Post, Collect}
 use Rattle.rules.specs.Pool.{Pool}
 use Rattle.rules.specs.Reply.{Outcome, number, refusalNumber}
-use Rattle.rules.specs.Worker.{makes, moves, drops, loads, stores}
+use Rattle.rules.specs.Worker.{makes, moves, drops, registerTakes, loads, looks, linkTakes, stores, posts}
 use Rattle.rules.specs.Collect.{opens, snoops, takes, clears, scans, counts, collects}
 use Rattle.rules.specs.Outcome.{Test, noneFree, refusals, refused, decide, does, outcome}
 use Rattle.rules.specs.Sound.{Each, Sound}
@@ -55,7 +55,7 @@ module _ {s : Sizes} {p : Pool} (sound : Sound s p) where
       (λ e. reclaims-cases s p (λ o. number (o .answer) ≡ 0) (λ z. refl) (λ y some low pass. refl))
 
   pub never-one-or-two : (e : Event) → OfAnEvent (number (outcome s p e .answer))
-  unfolding outcome refusals does noneFree makes moves drops loads stores number refusalNumber
+  unfolding outcome refusals does noneFree makes moves drops registerTakes loads looks linkTakes stores posts number refusalNumber
   never-one-or-two (Make w r) =
       decided-by Fair p (refusals s p (Make w r)) (makes w r p) (other 3 refl refl, (other 13 refl refl, (other 14 refl refl, (other 5 refl refl, tt)))) (done-fair (makes w r p) refl)
   never-one-or-two (Move w r q) =
@@ -66,4 +66,8 @@ module _ {s : Sizes} {p : Pool} (sound : Sound s p) where
       decided-by Fair p (refusals s p (Load w r q f)) (loads s w r q f p) (other 3 refl refl, (other 13 refl refl, (other 14 refl refl, (other 4 refl refl, tt)))) (done-fair (loads s w r q f p) refl)
   never-one-or-two (Store w q f r) =
       decided-by Fair p (refusals s p (Store w q f r)) (stores s w q f r p) (other 3 refl refl, (other 13 refl refl, (other 14 refl refl, (other 4 refl refl, tt)))) (done-fair (stores s w q f r p) refl)
+  never-one-or-two (Look w r e) =
+      decided-by Fair p (refusals s p (Look w r e)) (looks s w r e p) (other 3 refl refl, (other 13 refl refl, (other 14 refl refl, tt))) (done-fair (looks s w r e p) refl)
+  never-one-or-two (Post w e r) =
+      decided-by Fair p (refusals s p (Post w e r)) (posts s w e r p) (other 3 refl refl, (other 13 refl refl, (other 14 refl refl, tt))) (done-fair (posts s w e r p) refl)
   never-one-or-two Collect = decided-by Fair p [] (collects s p) tt (done-fair (collects s p) collect-done)

@@ -1,10 +1,12 @@
 -- The promises speak of something: document 01's listing has a cycle, and at its opening record 1 is lost and no loop keeps it. So the third promise says of it what
 -- the listing prints, that record 1 is freed in that cycle. And its "loops aside" can't be left out: a record that is linked to itself and lost stays.
+-- Two workers share a record through the board.
 --     begun, opened        the listing's make and drop, and the pool then
 --     one-cycle            its six collect events are a cycle
 --     one-lost, no-loop    record 1 is lost, and no closed loop keeps it
 --     one-freed            so it is freed
 --     self-stays           where record 1 is linked to itself before the drop, it is lost, a loop keeps it, and the cycle does not free it
+--     two-workers-share    what one worker posts and another looks at, both hold
 -- Assumes nothing.
 use Prim.Native.Nat.{ℕ, zero, suc}
 use mathlib.Core.Path.{_≡_, refl, sym, ap, _∙_}
@@ -15,12 +17,13 @@ use native.Mathlib.Omega.{arith}
 use Rattle.rules.specs.declared.Sizes.{Sizes}
 use Rattle.rules.specs.declared.RecordNumber.{RecordNumber}
 use Rattle.rules.specs.declared.Event.{Event}
-use Rattle.rules.specs.declared.Event.the-variants.{Make, Drop, Store, Collect}
+use Rattle.rules.specs.declared.Event.the-variants.{Make, Drop, Store, Look, Post, Collect}
 use Rattle.rules.specs.Size.{linkNumber}
 use Rattle.rules.specs.Pool.{Pool, none, usedAt, valueAt, registerAt, fresh}
 use Rattle.rules.specs.Outcome.{answers, after, answersFreed}
-use Rattle.rules.specs.Starred.{sizesOf}
+use Rattle.rules.specs.Starred.{sizesOf, sizesAndBoard}
 use Rattle.rules.proofs.Starred.{computes}
+use Rattle.promises.specs.Reach.{Reaches, holds}
 use Rattle.promises.specs.Cycle.{Cycle, closing, going-on, freedAmong}
 use Rattle.promises.specs.Lost.{Lost, LeadsTo, link, on, LoopKeeps}
 use Rattle.promises.proofs.Promises.{lost-is-freed}
@@ -68,7 +71,7 @@ no-value (suc (suc l)) = refl
 
 one-lost : Lost sizes opened one
 unfolding computes
-one-lost = record { used = refl; unreached = λ w x. nothing-reached no-register x }
+one-lost = record { used = refl; unreached = λ w x. nothing-reached no-register (λ e k. absurd (omega arith)) x }
 
 nothing-leads : {a b : RecordNumber} → LeadsTo sizes opened a b → ⊥
 nothing-leads (link {a = a} {b = b} f from to k e) =
@@ -112,7 +115,7 @@ self-register (suc w) r = refl
 
 self-lost : Lost sizes self-opened one
 unfolding computes
-self-lost = record { used = refl; unreached = λ w x. nothing-reached self-register x }
+self-lost = record { used = refl; unreached = λ w x. nothing-reached self-register (λ e k. absurd (omega arith)) x }
 
 self-kept : LoopKeeps sizes self-opened one
 unfolding computes
@@ -122,3 +125,17 @@ pub self-stays : Cycle sizes self-opened Collect self-rest × Lost sizes self-op
     × (freedAmong one (Collect ∷ self-rest) (answers sizes self-opened (Collect ∷ self-rest)) ≡ false)
 unfolding computes freedAmong answersFreed
 self-stays = (self-cycle, self-lost, self-kept, refl)
+
+-- ---- the board
+
+abbrev board-sizes : Sizes
+board-sizes = sizesAndBoard 1 1 2 1 1
+
+-- worker 0 makes record 1 and posts it; worker 1 looks at the entry
+abbrev passed-on : List Event
+passed-on = Make 0 0 ∷ Post 0 0 0 ∷ Look 1 0 0 ∷ []
+
+-- each of them reaches record 1 from a register of its own
+pub two-workers-share : Reaches board-sizes (after board-sizes (fresh board-sizes) passed-on) 0 one × Reaches board-sizes (after board-sizes (fresh board-sizes) passed-on) 1 one
+unfolding computes
+two-workers-share = (holds 0 refl (omega arith), holds 0 refl (omega arith))

@@ -19,13 +19,13 @@ use lib.Seq.{getD-set-other}
 use Rattle.rules.specs.declared.Sizes.{Sizes}
 use Rattle.rules.specs.declared.RecordNumber.{RecordNumber}
 use Rattle.rules.specs.declared.LinkNumber.{LinkNumber}
-use Rattle.rules.specs.Size.{links, linkNumber}
+use Rattle.rules.specs.Size.{links, linkNumber, boardNumber}
 use Rattle.rules.specs.Pool.{Entry, Pool, none, withRecord, usedAt, heldAt, candidateAt, makerAt, valueAt, changedAt, registersAt, registerAt, withUsed, withCandidate}
 use Rattle.rules.specs.View.{bit, times, oldIn, allLogs, lookUp, viewValue}
 use Rattle.rules.specs.Collect.{falls, emptied, emptiedFrom, closes}
 use Rattle.rules.specs.Sound.{Each, EntryInRange}
 use Rattle.laws.proofs.Tests.{eqb-cases, below-or-not, bit-on}
-use Rattle.laws.proofs.Number.{record-same, link-inside, link-apart}
+use Rattle.laws.proofs.Number.{record-same, link-inside, link-apart, board-apart}
 use Rattle.laws.proofs.Lists.{set-cases, ofRecord-same, ofRecord-other, Each-map, Each-map₂}
 use Rattle.laws.proofs.Entries.{times-each}
 use Rattle.laws.proofs.LookUp.{lookUp-each, view-marked, view-unmarked}
@@ -34,7 +34,7 @@ use Rattle.laws.proofs.Tally.{tally-here}
 use Rattle.laws.proofs.Search.{Passed}
 use Rattle.laws.proofs.Marks.{on-some, maker-some, falls-other, closes-candidate}
 use Rattle.soundness.proofs.Core.{Core, times-most}
-use Rattle.promises.proofs.Invariant.{Used, Kept, by-held, by-maker, by-mark, by-view, NoneOrKept, Since, Named, Phased}
+use Rattle.promises.proofs.Invariant.{Used, Kept, by-held, by-maker, by-mark, by-board, by-view, NoneOrKept, Since, Named, Phased}
 use Rattle.promises.proofs.Grow.{free-falls, kept-grows}
 
 -- ---- unkept, unnamed
@@ -50,6 +50,7 @@ pub unkept : {s : Sizes} {p : Pool} {y : RecordNumber} → Unkept s p y → Kept
 unkept u (by-held h) = true≢false (sym h ∙ u .held)
 unkept u (by-maker h) = omega (arith, u .maker)
 unkept u (by-mark f some k h) = true≢false (sym h ∙ u .unmarked f k)
+unkept {s} u (by-board e k x some) = u .view (boardNumber s e) (ap (λ (b : RecordNumber). b .0) x)
 unkept {s} u (by-view {a = a} f x k e some) = u .view (linkNumber s a f) (ap (λ (b : RecordNumber). b .0) e)
 
 -- and nothing names it
@@ -64,6 +65,7 @@ kept-some : {s : Sizes} {p : Pool} {a : RecordNumber} → Kept s p a → 1 ≤ a
 kept-some {s} {p} (by-held {a = a} h) = on-some (p .records .held) a.0 h
 kept-some {s} {p} (by-maker {a = a} h) = maker-some p a (makerAt p a - 1) (omega arith)
 kept-some (by-mark f some k h) = some
+kept-some (by-board e k x some) = some
 kept-some (by-view f x k e some) = some
 
 -- ---- what phase 6 takes is unnamed
@@ -168,6 +170,13 @@ module _ {s : Sizes} {p : Pool} (y : RecordNumber) (some : 1 ≤ y .0) (low : y 
       ap (cond (changedAt p (linkNumber s a f)) (lookUp (linkNumber s a f) (p .workers .log)))
       (getD-set-other (p .links .value) l.0 (linkNumber s a f .0) none none (λ e. n (link-apart s a y f g some-a some k inside e)))
 
+  -- and for the board entries, which are no record's
+  view-board : (e : ℕ) → viewValue (emptied l p) (boardNumber s e) ≡ viewValue p (boardNumber s e)
+  unfolding emptied falls viewValue
+  view-board e =
+      ap (cond (changedAt p (boardNumber s e)) (lookUp (boardNumber s e) (p .workers .log)))
+      (getD-set-other (p .links .value) l.0 (boardNumber s e .0) none none (λ same. board-apart s y g e some low inside (sym same)))
+
   pub named-emptied : Named s p → Named s (emptied l p)
   unfolding emptied falls allLogs
   named-emptied n =
@@ -178,7 +187,7 @@ module _ {s : Sizes} {p : Pool} (y : RecordNumber) (some : 1 ≤ y .0) (low : y 
         history = n .history;
         free-candidate = free-falls p (valueAt p l) (n .values l) (n .free-candidate);
         free-maker = n .free-maker;
-        free-links = λ a h free f k. value-emptied (λ b. b ≡ none) (linkNumber s a f) refl (n .free-links a h free f k);
+        free-links = λ a h low-a free f k. value-emptied (λ b. b ≡ none) (linkNumber s a f) refl (n .free-links a h low-a free f k);
       }
 
   kept-emptied : {a : RecordNumber} → Kept s p a → Kept s (emptied l p) a
@@ -186,6 +195,7 @@ module _ {s : Sizes} {p : Pool} (y : RecordNumber) (some : 1 ≤ y .0) (low : y 
   kept-emptied (by-held h) = by-held h
   kept-emptied (by-maker h) = by-maker h
   kept-emptied (by-mark f some-a k h) = by-mark f some-a k h
+  kept-emptied (by-board e k x some-b) = by-board e k (view-board e ∙ x) some-b
   kept-emptied (by-view {a = a} f x k e some-b) =
       by-view f (kept-emptied x) k
       (view-other a f (kept-some x) k (λ z. unkept (unnamed .unkept) (subst (Kept s p) (record-same a y z) x)) ∙ e)
@@ -290,8 +300,8 @@ module _ (s : Sizes) (p : Pool) (y : RecordNumber) (some : 1 ≤ y .0) (low-used
             (λ n h. ofRecord-other (p .records .candidate) y.0 a.0 false false (λ e. n (sym e)) ∙ x .named .free-candidate a h);
         free-maker = λ a. by-free (λ b. makerAt p b ≡ 0) (x .unnamed .unkept .maker) a (λ n h. x .named .free-maker a h);
         free-links =
-            λ a some-a free f k.
-            by-free (λ b. valueAt p (linkNumber s b f) ≡ none) (none-left f k) a (λ n h. x .named .free-links a some-a h f k) free;
+            λ a some-a low-a free f k.
+            by-free (λ b. valueAt p (linkNumber s b f) ≡ none) (none-left f k) a (λ n h. x .named .free-links a some-a low-a h f k) free;
       }
 
   pub phased-freed : Phased s freed 6 i

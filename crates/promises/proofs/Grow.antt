@@ -15,14 +15,14 @@ use Rattle.rules.specs.declared.Sizes.{Sizes}
 use Rattle.rules.specs.declared.RecordNumber.{RecordNumber}
 use Rattle.rules.specs.declared.LinkNumber.{LinkNumber}
 use Rattle.rules.specs.declared.Collector.{Collector}
-use Rattle.rules.specs.Size.{linkNumber}
+use Rattle.rules.specs.Size.{linkNumber, boardNumber}
 use Rattle.rules.specs.Pool.{Pool, ofRecord, usedAt, heldAt, candidateAt, makerAt, valueAt, changedAt, logAt}
 use Rattle.rules.specs.View.{allLogs, viewValue}
 use Rattle.rules.specs.Collect.{falls}
 use Rattle.laws.proofs.Number.{record-same}
 use Rattle.laws.proofs.Lists.{Each-map}
 use Rattle.laws.proofs.Marks.{on-some, falls-cases}
-use Rattle.promises.proofs.Invariant.{Used, Kept, by-held, by-maker, by-mark, by-view, Since, Named, Phased, snoopsIn}
+use Rattle.promises.proofs.Invariant.{Used, Kept, by-held, by-maker, by-mark, by-board, by-view, Since, Named, Phased, snoopsIn}
 
 pub kept-grows : {s : Sizes} {a : RecordNumber} (p q : Pool)
     → ((b : RecordNumber) → heldAt p b ≡ true → heldAt q b ≡ true)
@@ -33,6 +33,7 @@ pub kept-grows : {s : Sizes} {a : RecordNumber} (p q : Pool)
 kept-grows p q h m c v (by-held {a = a} x) = by-held (h a x)
 kept-grows p q h m c v (by-maker {a = a} x) = by-maker (m a x)
 kept-grows {s} p q h m c v (by-mark {a = a} f some k x) = by-mark f some k (c (linkNumber s a f) x)
+kept-grows {s} p q h m c v (by-board e k x some) = by-board e k (v (boardNumber s e) ∙ x) some
 kept-grows {s} p q h m c v (by-view {a = a} f x k e some) = by-view f (kept-grows p q h m c v x) k (v (linkNumber s a f) ∙ e) some
 
 abbrev pub raised : Pool → List ℕ → List Bool → List Bool → Collector → Pool

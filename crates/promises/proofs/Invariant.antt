@@ -15,7 +15,7 @@ use lib.ListN.{getD}
 use Rattle.rules.specs.declared.Sizes.{Sizes}
 use Rattle.rules.specs.declared.RecordNumber.{RecordNumber}
 use Rattle.rules.specs.declared.LinkNumber.{LinkNumber}
-use Rattle.rules.specs.Size.{links, linkNumber}
+use Rattle.rules.specs.Size.{links, linkNumber, boardNumber}
 use Rattle.rules.specs.Pool.{Pool, none, usedAt, heldAt, candidateAt, makerAt, valueAt, changedAt, registerAt, snoopsAt, logAt}
 use Rattle.rules.specs.View.{allLogs, viewValue}
 use Rattle.rules.specs.Sound.{Each}
@@ -42,11 +42,12 @@ Used p a = 1 ≤ a .0 → usedAt p a ≡ true
 abbrev pub Held : Pool → RecordNumber → Type 0
 Held p a = 1 ≤ a .0 → heldAt p a ≡ true
 
--- held, or with a maker, or with a marked link; and all that view values lead to from these
+-- held, or with a maker, or with a marked link, or the view value of a board entry; and all that view values lead to from these
 pub data Kept (s : Sizes) (p : Pool) : RecordNumber → Type 0 where
   by-held : {a : RecordNumber} → heldAt p a ≡ true → Kept s p a
   by-maker : {a : RecordNumber} → 1 ≤ makerAt p a → Kept s p a
   by-mark : {a : RecordNumber} (f : ℕ) → 1 ≤ a .0 → f < s .k → changedAt p (linkNumber s a f) ≡ true → Kept s p a
+  by-board : {b : RecordNumber} (e : ℕ) → e < s .b → viewValue p (boardNumber s e) ≡ b → 1 ≤ b .0 → Kept s p b
   by-view : {a b : RecordNumber} (f : ℕ) → Kept s p a → f < s .k → viewValue p (linkNumber s a f) ≡ b → 1 ≤ b .0 → Kept s p b
 
 abbrev pub NoneOrKept : Sizes → Pool → RecordNumber → Type 0
@@ -78,7 +79,7 @@ pub record Named (s : Sizes) (p : Pool) : Type 0 where
   pub history : Each (λ e. Used p (e .old)) (p .history)
   pub free-candidate : (a : RecordNumber) → usedAt p a ≡ false → candidateAt p a ≡ false
   pub free-maker : (a : RecordNumber) → usedAt p a ≡ false → makerAt p a ≡ 0
-  pub free-links : (a : RecordNumber) → 1 ≤ a .0 → usedAt p a ≡ false → (f : ℕ) → f < s .k → valueAt p (linkNumber s a f) ≡ none
+  pub free-links : (a : RecordNumber) → 1 ≤ a .0 → a .0 ≤ s .n → usedAt p a ≡ false → (f : ℕ) → f < s .k → valueAt p (linkNumber s a f) ≡ none
 
 -- in a phase, at a position
 pub record Phased (s : Sizes) (p : Pool) (phase i : ℕ) : Type 0 where

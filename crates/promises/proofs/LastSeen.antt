@@ -24,25 +24,25 @@ use Rattle.rules.specs.declared.RecordNumber.{RecordNumber}
 use Rattle.rules.specs.declared.LinkNumber.{LinkNumber}
 use Rattle.rules.specs.declared.Refusal.{Refusal}
 use Rattle.rules.specs.declared.Event.{Event}
-use Rattle.rules.specs.declared.Event.the-variants.{Make, Move, Drop, Load, Store, Collect}
+use Rattle.rules.specs.declared.Event.the-variants.{Make, Move, Drop, Load, Store, Look, Post, Collect}
 use Rattle.rules.specs.declared.Answer.the-variants.{Refused}
-use Rattle.rules.specs.Size.{inRange, links, linkNumber}
+use Rattle.rules.specs.Size.{inRange, links, linkNumber, boardNumber}
 use Rattle.rules.specs.Pool.{Entry, Pool, none, countAt, valueAt, changedAt, registersAt, registerAt, logAt, withHeld, withSnoop, withLog, withHistory, withChanged, fresh}
 use Rattle.rules.specs.View.{times, oldIn, lookUp, viewValue}
 use Rattle.rules.specs.Reply.{value, Outcome}
-use Rattle.rules.specs.Worker.{makes, moves, drops, loads, added, stores}
+use Rattle.rules.specs.Worker.{makes, moves, drops, registerTakes, loads, looks, added, linkTakes, stores, posts}
 use Rattle.rules.specs.Collect.{stepped, opens, snoops, madeBy, takes, noEntry, entryHere, clears, heldBy, scans, falls, rises, counted, counts, frees, closes, reclaims}
 use Rattle.rules.specs.Outcome.{refused, does, outcome, after}
 use Rattle.rules.specs.Sound.{Sound, uncleared, tally}
 use Rattle.laws.proofs.Tests.{eqb-cases, and-left, and-right, bit-on}
-use Rattle.laws.proofs.Number.{link-same, link-inside}
+use Rattle.laws.proofs.Number.{link-same, link-inside, board-inside}
 use Rattle.laws.proofs.Lists.{set-cases}
 use Rattle.laws.proofs.Entries.{times-one, times-from, oldIn-absent, oldIn-there}
 use Rattle.laws.proofs.LookUp.{view-unmarked}
 use Rattle.laws.proofs.Tally.{tally-same}
 use Rattle.laws.proofs.Change.{frees-collector, frees-workers, frees-changed, stored-has, emptied-other, emptied-none}
 use Rattle.laws.proofs.Search.{Passed, reclaims-cases}
-use Rattle.laws.proofs.Refusals.{decided-outcome, can-store}
+use Rattle.laws.proofs.Refusals.{decided-outcome, can-store, can-post}
 use Rattle.laws.proofs.Phases.{by-phase, moved, snoops-cases, takes-cases, clears-cases, scans-cases, counts-cases}
 use Rattle.soundness.proofs.Core.{Core, core, core-in, position-in, empty-in, unclearedIn}
 use Rattle.soundness.proofs.Store.{view-value, view-after}
@@ -83,6 +83,8 @@ refused-empties s why (Move w r q) l = refl
 refused-empties s why (Drop w r) l = refl
 refused-empties s why (Load w r q f) l = refl
 refused-empties s why (Store w q f r) l = refl
+refused-empties s why (Look w r e) l = refl
+refused-empties s why (Post w e r) l = refl
 refused-empties s why Collect l = refl
 
 -- ---- every event
@@ -116,18 +118,18 @@ module _ {s : Sizes} {p : Pool} (sound : Sound s p) (seen : LinkNumber → Recor
 
   -- ---- the worker events
 
-  stored-quiet : (w q f r : ℕ) → w < s .w → linkNumber s (registerAt p w q) f .0 < links s → Quiet (stores s w q f r p .pool)
+  stored-quiet : (w : ℕ) (m : LinkNumber) (r : ℕ) → w < s .w → m .0 < links s → Quiet (linkTakes w m r p .pool)
   unfolding viewValue uncleared added
-  stored-quiet w q f r worker inside =
-      stored-has s p w q f r Quiet
+  stored-quiet w m r worker inside =
+      stored-has p w m r Quiet
       (λ on t h. record { marks = h .marks; same = h .same })
       (λ off. record {
-        marks = λ l on. ⊎-elim (λ e. e ∙ on) (λ e. e .1) (set-cases (p .links .changed) (linkNumber s (registerAt p w q) f .0) true l.0 false);
-        same = λ l h. ap (oldIn l (uncleared p)) (sym (view-after (core sound) (linkNumber s (registerAt p w q) f) (registerAt p w r) (sound .registers w r) inside off w worker l));
+        marks = λ l on. ⊎-elim (λ e. e ∙ on) (λ e. e .1) (set-cases (p .links .changed) (m .0) true l.0 false);
+        same = λ l h. ap (oldIn l (uncleared p)) (sym (view-after (core sound) m (registerAt p w r) (sound .registers w r) inside off w worker l));
       })
       (λ on. record {
         marks = λ l h. h;
-        same = λ l h. ap (oldIn l (uncleared p)) (sym (view-value (core sound) (linkNumber s (registerAt p w q) f) (registerAt p w r) (sound .registers w r) on l));
+        same = λ l h. ap (oldIn l (uncleared p)) (sym (view-value (core sound) m (registerAt p w r) (sound .registers w r) on l));
       })
 
   -- ---- the collector
@@ -309,15 +311,11 @@ module _ {s : Sizes} {p : Pool} (sound : Sound s p) (seen : LinkNumber → Recor
 
   -- ---- every event
 
-  stores-sees : (w q f r : ℕ) → w < s .w → linkNumber s (registerAt p w q) f .0 < links s → Sees (Store w q f r) (stores s w q f r p)
-  unfolding stores emptiedBy
-  stores-sees w q f r worker inside = quiet (Store w q f r) (stores s w q f r p) (λ l. refl) (stored-quiet w q f r worker inside)
-
   refused-sees : (e : Event) (why : Refusal) → Sees e (refused why p)
   refused-sees e why = quiet e (refused why p) (refused-empties s why e) unchanged
 
   pub event-sees : (e : Event) → Sees e (outcome s p e)
-  unfolding outcome does makes moves drops loads viewValue uncleared emptiedBy
+  unfolding outcome does makes moves drops registerTakes loads looks stores posts viewValue uncleared emptiedBy
   event-sees (Make w r) = decided-outcome (Sees (Make w r)) p (refused-sees (Make w r)) _ _ (λ t. quiet (Make w r) (makes w r p) (λ l. refl) (record { marks = λ l h. h; same = λ l h. refl }))
   event-sees (Move w r q) = decided-outcome (Sees (Move w r q)) p (refused-sees (Move w r q)) _ _ (λ t. quiet (Move w r q) (moves w r q p) (λ l. refl) (record { marks = λ l h. h; same = λ l h. refl }))
   event-sees (Drop w r) = decided-outcome (Sees (Drop w r)) p (refused-sees (Drop w r)) _ _ (λ t. quiet (Drop w r) (drops w r p) (λ l. refl) (record { marks = λ l h. h; same = λ l h. refl }))
@@ -325,7 +323,13 @@ module _ {s : Sizes} {p : Pool} (sound : Sound s p) (seen : LinkNumber → Recor
   event-sees (Store w q f r) =
       decided-outcome (Sees (Store w q f r)) p (refused-sees (Store w q f r)) _ _ (λ t.
       let k = can-store s p w q f r t in
-      stores-sees w q f r (k .0 .worker) (link-below sound w q f (k .2 .holds) (k .2 .link)))
+      quiet (Store w q f r) (stores s w q f r p) (λ l. refl)
+      (stored-quiet w (linkNumber s (registerAt p w q) f) r (k .0 .worker) (link-below sound w q f (k .2 .holds) (k .2 .link))))
+  event-sees (Look w r e) = decided-outcome (Sees (Look w r e)) p (refused-sees (Look w r e)) _ _ (λ t. quiet (Look w r e) (looks s w r e p) (λ l. refl) (record { marks = λ l h. h; same = λ l h. refl }))
+  event-sees (Post w e r) =
+      decided-outcome (Sees (Post w e r)) p (refused-sees (Post w e r)) _ _ (λ t.
+      let k = can-post s p w e r t in
+      quiet (Post w e r) (posts s w e r p) (λ l. refl) (stored-quiet w (boardNumber s e) r (k .0 .worker) (board-inside s e (k .1))))
   event-sees Collect =
       decided-outcome (Sees Collect) p (refused-sees Collect) _ _ (λ t.
       by-phase s p (Sees Collect) (sound .phase) opens-sees snoops-sees takes-sees clears-sees scans-sees counts-sees reclaims-sees)

@@ -7,14 +7,14 @@
 --     Run, Work     every collector step and every worker event keeps the invariant
 --     Hold          it holds at each place of a run
 --     Reached       what a worker can reach is never freed
---     Apart         no record is in the reach of two workers
+--     Earlier       what is reached after an event was reached before
 --     LastSeen      the counts are those of the values last seen
 --     Ready         two more facts of every pool of a run
 --     Remain, Opening     what was lost at the opening of a cycle, through the cycle and at the opening
 --     Pigeon, Chain     records that lead back to one another for ever come round
 --     LostFreed     what was lost is freed
 --     Promises      the statements
---     Example       they speak of something: the document's listing
+--     Example       they speak of something: the document's listing, and a record that two workers share
 pub mod Invariant
 pub mod Grow
 pub mod Register
@@ -25,7 +25,7 @@ pub mod Run
 pub mod Work
 pub mod Hold
 pub mod Reached
-pub mod Apart
+pub mod Earlier
 pub mod LastSeen
 pub mod Ready
 pub mod Remain

@@ -26,12 +26,12 @@ use Rattle.rules.specs.declared.Sizes.{Sizes}
 use Rattle.rules.specs.declared.RecordNumber.{RecordNumber}
 use Rattle.rules.specs.declared.LinkNumber.{LinkNumber}
 use Rattle.rules.specs.declared.Event.{Event}
-use Rattle.rules.specs.declared.Event.the-variants.{Make, Move, Drop, Load, Store, Collect}
-use Rattle.rules.specs.Size.{inRange, links, linkNumber}
+use Rattle.rules.specs.declared.Event.the-variants.{Make, Move, Drop, Load, Store, Look, Post, Collect}
+use Rattle.rules.specs.Size.{inRange, links, linkNumber, boardNumber}
 use Rattle.rules.specs.Pool.{Pool, none, ofRecord, fresh, countAt, makerAt, valueAt, changedAt, registerAt}
 use Rattle.rules.specs.View.{times, oldIn, allLogs, viewValue}
 use Rattle.rules.specs.Reply.{value, Outcome}
-use Rattle.rules.specs.Worker.{makes, moves, drops, loads, added, stores}
+use Rattle.rules.specs.Worker.{makes, moves, drops, registerTakes, loads, looks, added, linkTakes, stores, posts}
 use Rattle.rules.specs.Collect.{opens, snoops, takes, clears, scans, falls, counts, reclaimed, emptied, emptiedFrom, frees, closes, reclaims, collects}
 use Rattle.rules.specs.Outcome.{answersFreed, refused, does, outcome, answers, after}
 use Rattle.rules.specs.Sound.{Each, Sound}
@@ -41,20 +41,21 @@ use Rattle.laws.proofs.Lists.{ofRecord-other, Each-all, Each-map}
 use Rattle.laws.proofs.Entries.{times-foreign}
 use Rattle.laws.proofs.LookUp.{lookUp-keeps, view-marked, view-unmarked}
 use Rattle.laws.proofs.Tally.{tally-found}
+use Rattle.laws.proofs.Chosen.{chosen-low}
 use Rattle.laws.proofs.Change.{frees-collector, frees-workers, stored-has, emptied-keeps, emptied-values, emptied-other, emptied-none}
 use Rattle.laws.proofs.Marks.{on-low}
 use Rattle.laws.proofs.Search.{Passed, passes-all, reclaimed-none, reclaims-cases}
-use Rattle.laws.proofs.Refusals.{LinkThere, decided-outcome, can-make, can-load, can-store}
+use Rattle.laws.proofs.Refusals.{decided-outcome, can-make, can-load, can-store, can-look, can-post}
 use Rattle.laws.proofs.Runs.{run-keeps}
 use Rattle.laws.proofs.Phases.{by-phase, snoops-cases, takes-cases, clears-cases, scans-cases, counts-cases}
 use Rattle.soundness.proofs.Core.{core-in}
-use Rattle.promises.specs.Reach.{holds, leads}
+use Rattle.promises.specs.Reach.{holds}
 use Rattle.promises.specs.Cycle.{Cycle, ToClose, closing, going-on, freedAmong}
 use Rattle.promises.specs.Lost.{Lost, LoopKeeps}
 use Rattle.promises.proofs.Hold.{Reached, reached-fresh, reached-event, run-holds}
 use Rattle.promises.proofs.Ready.{Ready, event-ready, fresh-ready}
-use Rattle.promises.proofs.Apart.{Apart, Shrunk, apart-event, two-workers-share-nothing}
-use Rattle.promises.proofs.Remain.{Foreign, Left, Holder, Remains, Remaining, left-by, left-some, register-remains, makes-remains, stores-remains, remains-in, opens-remaining, snoops-remaining, takes-remaining, clears-remaining, scans-remaining, counts-remaining}
+use Rattle.promises.proofs.Earlier.{AtHand, link-at-hand, entry-at-hand, Shrunk}
+use Rattle.promises.proofs.Remain.{Foreign, Left, Holder, Remains, Remaining, left-by, left-some, register-remains, makes-remains, link-takes-remains, remains-in, opens-remaining, snoops-remaining, takes-remaining, clears-remaining, scans-remaining, counts-remaining}
 use Rattle.promises.proofs.Opening.{lost-remaining}
 use Rattle.promises.proofs.Chain.{Back, loop-found}
 
@@ -182,10 +183,10 @@ module _ {s : Sizes} {p₀ p : Pool} {R : RecordNumber → Type 0} (sound : Soun
 
 -- ---- every event but the close
 
--- a store does not move the collector's record
-stores-collector : (s : Sizes) (p : Pool) (w q f r : ℕ) → stores s w q f r p .pool .collector ≡ p .collector
+-- a store or a post does not move the collector's record
+link-takes-collector : (p : Pool) (w : ℕ) (l : LinkNumber) (r : ℕ) → linkTakes w l r p .pool .collector ≡ p .collector
 unfolding added
-stores-collector s p w q f r = stored-has s p w q f r (λ t. t .collector ≡ p .collector) (λ on t h. h) (λ off. refl) (λ on. refl)
+link-takes-collector p w l r = stored-has p w l r (λ t. t .collector ≡ p .collector) (λ on t h. h) (λ off. refl) (λ on. refl)
 
 -- those that remain after an answer
 abbrev Unfreed : (RecordNumber → Type 0) → Event → Outcome → RecordNumber → Type 0
@@ -202,7 +203,7 @@ narrowed all h =
           record { who = b .who; which = b .which; remains = (b .remains, all (b .who) (b .remains)); inside = b .inside; number = b .number };
     }
 
-module _ {s : Sizes} {p₀ p : Pool} {R : RecordNumber → Type 0} (reached : Reached s p) (apart : Apart s p) (h : Remaining s p₀ R p) where
+module _ {s : Sizes} {p₀ p : Pool} {R : RecordNumber → Type 0} (reached : Reached s p) (h : Remaining s p₀ R p) where
   -- what an outcome leaves, if it does not close the cycle
   abbrev Goes-on : Event → Outcome → Type 0
   Goes-on e o = (o .pool .collector .phase ≡ 0 → ⊥) → Remaining s p₀ (Unfreed R e o) (o .pool)
@@ -222,27 +223,33 @@ module _ {s : Sizes} {p₀ p : Pool} {R : RecordNumber → Type 0} (reached : Re
       (subst (λ (k : ℕ). Remains s p₀ (frees s y p) (λ z. R z × (eqb (y .0) (z .0) ≡ false)) k here) (sym e)
       (frees-remains (reached .sound) (remains-in (reached .sound) h 6 e) y some low)))
 
-  stores-goes-on : (w q f r : ℕ) → LinkThere s p w q f → Goes-on (Store w q f r) (stores s w q f r p)
-  unfolding stores answersFreed
-  stores-goes-on w q f r there open-still =
-      narrowed (λ x y. refl)
-      (subst (λ c. Remains s p₀ (stores s w q f r p .pool) R (c .phase) (c .position)) (sym (stores-collector s p w q f r)) (stores-remains h apart w q f r there))
+  link-takes-remaining : (w : ℕ) (l : LinkNumber) (r : ℕ) → AtHand s p w l → Remaining s p₀ R (linkTakes w l r p .pool)
+  link-takes-remaining w l r there =
+      subst (λ c. Remains s p₀ (linkTakes w l r p .pool) R (c .phase) (c .position)) (sym (link-takes-collector p w l r)) (link-takes-remains h (reached .sound) w l r there)
 
   pub event-remaining : (e : Event) → Goes-on e (outcome s p e)
-  unfolding outcome does makes moves drops loads opens snoops takes clears scans counts answersFreed value
+  unfolding outcome does makes moves drops registerTakes loads looks stores posts opens snoops takes clears scans counts answersFreed value
   event-remaining (Make w r) =
-      decided-outcome (Goes-on (Make w r)) p (λ why z. narrowed (λ x y. refl) h) _ _ (λ t z. narrowed (λ x y. refl) (makes-remains h (reached .state .named) w r (can-make s p w r t .1)))
+      decided-outcome (Goes-on (Make w r)) p (λ why z. narrowed (λ x y. refl) h) _ _ (λ t z. narrowed (λ x y. refl) (makes-remains h (reached .state .named) w r (can-make s p w r t .1) (omega (arith, chosen-low p, reached .sound .shaped .records .used))))
   event-remaining (Move w r q) =
       decided-outcome (Goes-on (Move w r q)) p (λ why z. narrowed (λ x y. refl) h) _ _ (λ t z. narrowed (λ x y. refl) (register-remains h w r (registerAt p w q) (λ some. holds q refl some)))
   event-remaining (Drop w r) =
       decided-outcome (Goes-on (Drop w r)) p (λ why z. narrowed (λ x y. refl) h) _ _ (λ t z. narrowed (λ x y. refl) (register-remains h w r none (λ some. absurd (omega arith))))
   event-remaining (Load w r q f) =
       decided-outcome (Goes-on (Load w r q f)) p (λ why z. narrowed (λ x y. refl) h) _ _ (λ t z.
-      let there : LinkThere s p w q f = can-load s p w r q f t .2 in
-      narrowed (λ x y. refl)
-      (register-remains h w r (valueAt p (linkNumber s (registerAt p w q) f)) (λ some. leads f (holds q refl (there .holds)) (there .link) refl some)))
+      let l : LinkNumber = linkNumber s (registerAt p w q) f in
+      narrowed (λ x y. refl) (register-remains h w r (valueAt p l) (link-at-hand (reached .sound) w q f (can-load s p w r q f t .2) .value)))
   event-remaining (Store w q f r) =
-      decided-outcome (Goes-on (Store w q f r)) p (λ why z. narrowed (λ x y. refl) h) _ _ (λ t. stores-goes-on w q f r (can-store s p w q f r t .2))
+      decided-outcome (Goes-on (Store w q f r)) p (λ why z. narrowed (λ x y. refl) h) _ _ (λ t z.
+      let l : LinkNumber = linkNumber s (registerAt p w q) f in
+      narrowed (λ x y. refl) (link-takes-remaining w l r (link-at-hand (reached .sound) w q f (can-store s p w q f r t .2))))
+  event-remaining (Look w r e) =
+      decided-outcome (Goes-on (Look w r e)) p (λ why z. narrowed (λ x y. refl) h) _ _ (λ t z.
+      let there : AtHand s p w (boardNumber s e) = entry-at-hand w e (can-look s p w r e t .1) in
+      narrowed (λ x y. refl) (register-remains h w r (valueAt p (boardNumber s e)) (there .value)))
+  event-remaining (Post w e r) =
+      decided-outcome (Goes-on (Post w e r)) p (λ why z. narrowed (λ x y. refl) h) _ _ (λ t z.
+      narrowed (λ x y. refl) (link-takes-remaining w (boardNumber s e) r (entry-at-hand w e (can-post s p w e r t .1))))
   event-remaining Collect =
       decided-outcome (Goes-on Collect) p (λ why z. narrowed not-freed h) _ _ (λ t.
       by-phase s p (Goes-on Collect) (reached .sound .phase)
@@ -285,12 +292,14 @@ module _ (s : Sizes) (p : Pool) (most : p .collector .phase ≤ 6) (open-before 
   still-open o same z = absurd (open-before (ap (λ c. c .phase) (sym same) ∙ z))
 
   closing-step : (e : Event) → Closed (outcome s p e)
-  unfolding outcome does makes moves drops loads
+  unfolding outcome does makes moves drops registerTakes loads looks stores posts
   closing-step (Make w r) = decided-outcome Closed p (λ why. still-open (refused why p) refl) _ _ (λ t. still-open (makes w r p) refl)
   closing-step (Move w r q) = decided-outcome Closed p (λ why. still-open (refused why p) refl) _ _ (λ t. still-open (moves w r q p) refl)
   closing-step (Drop w r) = decided-outcome Closed p (λ why. still-open (refused why p) refl) _ _ (λ t. still-open (drops w r p) refl)
   closing-step (Load w r q f) = decided-outcome Closed p (λ why. still-open (refused why p) refl) _ _ (λ t. still-open (loads s w r q f p) refl)
-  closing-step (Store w q f r) = decided-outcome Closed p (λ why. still-open (refused why p) refl) _ _ (λ t. still-open (stores s w q f r p) (stores-collector s p w q f r))
+  closing-step (Store w q f r) = decided-outcome Closed p (λ why. still-open (refused why p) refl) _ _ (λ t. still-open (stores s w q f r p) (link-takes-collector p w (linkNumber s (registerAt p w q) f) r))
+  closing-step (Look w r e) = decided-outcome Closed p (λ why. still-open (refused why p) refl) _ _ (λ t. still-open (looks s w r e p) refl)
+  closing-step (Post w e r) = decided-outcome Closed p (λ why. still-open (refused why p) refl) _ _ (λ t. still-open (posts s w e r p) (link-takes-collector p w (boardNumber s e) r))
   closing-step Collect = decided-outcome Closed p (λ why. still-open (refused why p) refl) _ _ (λ t. collects-closed)
 
 -- ---- the whole cycle
@@ -300,22 +309,21 @@ or-else true c h = refl
 or-else false c h = h refl
 
 pub freed-by-the-close : (s : Sizes) → inRange s ≡ true → (p₀ : Pool) → length (p₀ .records .used) ≡ s .n → (R : RecordNumber → Type 0) → ((a : RecordNumber) → R a → Lost s p₀ a)
-    → (p : Pool) → Reached s p → Ready p → Apart s p → Remaining s p₀ R p
+    → (p : Pool) → Reached s p → Ready p → Remaining s p₀ R p
     → (events : List Event) → ToClose s p events
     → (a : RecordNumber) → R a → (LoopKeeps s p₀ a → ⊥) → freedAmong a events (answers s p events) ≡ true
 unfolding answers freedAmong
-freed-by-the-close s r p₀ n R lost p reached ready apart h events (closing {e = e} c) a y no-loop =
+freed-by-the-close s r p₀ n R lost p reached ready h events (closing {e = e} c) a y no-loop =
     let end : (p .collector .phase ≡ 6) × (reclaimed s p .0 ≡ 0) = closing-step s p (reached .sound .phase) (c .before) e (c .after) in
     absurd
     (no-loop
     (loop-found s p₀ n R lost (λ b z. left-back (reached .sound) ready (end .0) (remains-in (reached .sound) h 6 (end .0)) (end .1) b z) (record { at = a; has = y })))
-freed-by-the-close s r p₀ n R lost p reached ready apart h events (going-on {e = e} {events = later} open-still rest) a y no-loop =
+freed-by-the-close s r p₀ n R lost p reached ready h events (going-on {e = e} {events = later} open-still rest) a y no-loop =
     or-else (answersFreed a e (outcome s p e .answer)) (freedAmong a later (answers s (outcome s p e .pool) later)) (λ f.
     freed-by-the-close s r p₀ n (Unfreed R e (outcome s p e)) (λ b z. lost b (z .0)) (outcome s p e .pool)
     (reached-event s r p reached e)
     (event-ready s p (reached .sound) (reached .state) ready e)
-    (apart-event s p reached e apart)
-    (event-remaining reached apart h e open-still)
+    (event-remaining reached h e open-still)
     later
     rest
     a
@@ -334,7 +342,7 @@ lost-freed s r before e during c a lost no-loop =
     run-keeps s (λ q. Reached s q × Ready q) (λ q h d. (reached-event s r q (h .0) d, event-ready s q (h .0 .sound) (h .0 .state) (h .1) d)) (fresh s)
     (reached-fresh s, fresh-ready s)
     before .1 in
-    freed-by-the-close s r p (reached .sound .shaped .records .used) (Lost s p) (λ b z. z) p reached ready (two-workers-share-nothing s r before)
+    freed-by-the-close s r p (reached .sound .shaped .records .used) (Lost s p) (λ b z. z) p reached ready
     (lost-remaining s r p reached ready (c .opens .before))
     (e ∷ during)
     (going-on (c .opens .after) (c .to-close))

@@ -13,11 +13,13 @@ use native.Mathlib.Omega.{arith}
 use lib.ListN.{length}
 use Rattle.rules.specs.declared.Sizes.{Sizes}
 use Rattle.rules.specs.declared.RecordNumber.{RecordNumber}
+use Rattle.rules.specs.declared.LinkNumber.{LinkNumber}
 use Rattle.rules.specs.declared.Event.{Event}
-use Rattle.rules.specs.declared.Event.the-variants.{Make, Move, Drop, Load, Store, Collect}
-use Rattle.rules.specs.Pool.{Pool, ofRecord, withRecord, usedAt, countAt, heldAt, candidateAt, makerAt, valueAt, logAt, registersAt, withHeld, withSnoop, withLog, withHistory, withChanged, fresh}
+use Rattle.rules.specs.declared.Event.the-variants.{Make, Move, Drop, Load, Store, Look, Post, Collect}
+use Rattle.rules.specs.Size.{linkNumber, boardNumber}
+use Rattle.rules.specs.Pool.{Pool, ofRecord, withRecord, usedAt, countAt, heldAt, candidateAt, makerAt, valueAt, logAt, registersAt, registerAt, withHeld, withSnoop, withLog, withHistory, withChanged, fresh}
 use Rattle.rules.specs.View.{viewValue}
-use Rattle.rules.specs.Worker.{chosen, makes, moves, drops, loads, added, stores}
+use Rattle.rules.specs.Worker.{chosen, makes, moves, drops, registerTakes, loads, looks, added, linkTakes, stores, posts}
 use Rattle.rules.specs.Collect.{opens, snoops, madeBy, takes, entryHere, clears, heldBy, scans, falls, rises, counted, counts, emptied, emptiedFrom, frees, closes, reclaims}
 use Rattle.rules.specs.Outcome.{does, outcome}
 use Rattle.rules.specs.Sound.{Sound}
@@ -28,7 +30,7 @@ use Rattle.laws.proofs.Chosen.{chosen-low}
 use Rattle.laws.proofs.Change.{stored-has, emptied-keeps, frees-collector}
 use Rattle.laws.proofs.Marks.{on-some, made-other, made-candidate, made-candidate-own, falls-candidate, falls-own, closes-held, closes-stays}
 use Rattle.laws.proofs.Search.{Passed, reclaims-cases}
-use Rattle.laws.proofs.Refusals.{decided, can-make, can-store}
+use Rattle.laws.proofs.Refusals.{decided, can-make, can-store, can-post}
 use Rattle.laws.proofs.Phases.{by-phase, moved, snoops-cases, takes-cases, clears-cases, scans-cases, counts-cases}
 use Rattle.soundness.proofs.Core.{core-in}
 use Rattle.soundness.proofs.Reclaim.{core-emptied-has}
@@ -230,10 +232,10 @@ module _ {s : Sizes} {p : Pool} (sound : Sound s p) (ready : Ready p) where
           (withRecord-cases (p .records .used) (chosen p .0) true a.0 false)
 
   -- in phase 0 no worker snoops
-  stores-ready : State s p → (w q f r : ℕ) → w < s .w → Ready (stores s w q f r p .pool)
+  link-takes-ready : State s p → (w : ℕ) (l : LinkNumber) (r : ℕ) → w < s .w → Ready (linkTakes w l r p .pool)
   unfolding added
-  stores-ready state w q f r worker =
-      stored-has s p w q f r (λ t. Ready t × (t .collector ≡ p .collector))
+  link-takes-ready state w l r worker =
+      stored-has p w l r (λ t. Ready t × (t .collector ≡ p .collector))
       (λ on t h. (
         record {
           waiting = h .0 .waiting;
@@ -245,12 +247,14 @@ module _ {s : Sizes} {p : Pool} (sound : Sound s p) (ready : Ready p) where
       (λ on. (record { waiting = ready .waiting; unheld = ready .unheld }, refl)) .0
 
 pub event-ready : (s : Sizes) (p : Pool) → Sound s p → State s p → Ready p → (e : Event) → Ready (outcome s p e .pool)
-unfolding outcome does moves drops loads
+unfolding outcome does moves drops registerTakes loads looks stores posts
 event-ready s p h x ready (Make w r) = decided Ready p ready _ _ (λ t. makes-ready h ready w r (can-make s p w r t .1))
 event-ready s p h x ready (Move w r q) = decided Ready p ready _ _ (λ t. record { waiting = ready .waiting; unheld = ready .unheld })
 event-ready s p h x ready (Drop w r) = decided Ready p ready _ _ (λ t. record { waiting = ready .waiting; unheld = ready .unheld })
 event-ready s p h x ready (Load w r q f) = decided Ready p ready _ _ (λ t. record { waiting = ready .waiting; unheld = ready .unheld })
-event-ready s p h x ready (Store w q f r) = decided Ready p ready _ _ (λ t. stores-ready h ready x w q f r (can-store s p w q f r t .0 .worker))
+event-ready s p h x ready (Store w q f r) = decided Ready p ready _ _ (λ t. link-takes-ready h ready x w (linkNumber s (registerAt p w q) f) r (can-store s p w q f r t .0 .worker))
+event-ready s p h x ready (Look w r e) = decided Ready p ready _ _ (λ t. record { waiting = ready .waiting; unheld = ready .unheld })
+event-ready s p h x ready (Post w e r) = decided Ready p ready _ _ (λ t. link-takes-ready h ready x w (boardNumber s e) r (can-post s p w e r t .0 .worker))
 event-ready s p h x ready Collect =
     decided Ready p ready _ _ (λ t.
     by-phase s p (λ o. Ready (o .pool)) (h .phase) (λ e. opens-ready h ready) (snoops-ready h ready) (takes-ready h ready) (clears-ready h ready) (scans-ready h ready) (counts-ready h ready)

@@ -116,7 +116,7 @@ module _ (s : Sizes) (p : Pool) (w : ℕ) (a : RecordNumber) (some : 1 ≤ a .0)
         history = Each-map (p .history) (λ e h l. used-grows (e .old) (h l)) (n .history);
         free-candidate = λ b h. n .free-candidate b (sym (used-other b (free-before b h)) ∙ h);
         free-maker = λ b h. maker-other b (free-before b h) ∙ n .free-maker b (sym (used-other b (free-before b h)) ∙ h);
-        free-links = λ b l h. n .free-links b l (sym (used-other b (free-before b h)) ∙ h);
+        free-links = λ b l low-b h. n .free-links b l low-b (sym (used-other b (free-before b h)) ∙ h);
       }
 
   -- what names a used record does not name the one that was free

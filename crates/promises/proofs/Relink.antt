@@ -1,6 +1,6 @@
--- A store keeps the invariant.
+-- A link takes a record number: store and post keep the invariant.
 --     relinked                            a pool with other links and logs
---     Relinked                            what a store does to them: one link takes a record number and is marked, and at most one entry is logged
+--     Relinked                            what is done to them: one link takes a record number and is marked, and at most one entry is logged
 --     named-relinked, phased-relinked     the invariant
 --     relinked-held                       the same of a pool with other held marks
 --     stored-marked, stored-unmarked      a store is such a change, whether the link was marked or not
@@ -22,7 +22,7 @@ use Rattle.rules.specs.View.{allLogs, viewValue}
 use Rattle.rules.specs.Worker.{added}
 use Rattle.rules.specs.Sound.{Each}
 use Rattle.laws.proofs.Tests.{eqb-cases}
-use Rattle.laws.proofs.Number.{record-same, link-same, link-apart}
+use Rattle.laws.proofs.Number.{record-same, link-same}
 use Rattle.laws.proofs.Lists.{set-cases, Each-append, Each-flatten, Each-flatten-set, Each-map}
 use Rattle.laws.proofs.Marks.{maker-some}
 use Rattle.soundness.proofs.Core.{Core}
@@ -78,9 +78,10 @@ module _ (s : Sizes) {p : Pool} {ls : Links} {logs : List (List Entry)} (l : Lin
       (λ e. c .changed-there m (e .0) ∙ h)
       (eqb-cases m.0 l.0)
 
-  pub named-relinked : (a : RecordNumber) (f : ℕ) → linkNumber s a f ≡ l → 1 ≤ a .0 → f < s .k → usedAt p a ≡ true → Used p x → Named s p → Named s q
+  -- the link is no free record's
+  pub named-relinked : ((b : RecordNumber) → 1 ≤ b .0 → b .0 ≤ s .n → usedAt p b ≡ false → (g : ℕ) → g < s .k → linkNumber s b g .0 ≡ l .0 → ⊥) → Used p x → Named s p → Named s q
   unfolding allLogs
-  named-relinked a f e some k used fits n =
+  named-relinked other fits n =
       record {
         registers = n .registers;
         values = λ m. by-link (Used p) m (λ z. fits) (λ z. n .values m);
@@ -88,14 +89,8 @@ module _ (s : Sizes) {p : Pool} {ls : Links} {logs : List (List Entry)} (l : Lin
         history = n .history;
         free-candidate = n .free-candidate;
         free-maker = n .free-maker;
-        free-links = λ b h free g kg. c .value-there (linkNumber s b g) (other b h free g kg) ∙ n .free-links b h free g kg;
+        free-links = λ b h low free g kg. c .value-there (linkNumber s b g) (other b h low free g kg) ∙ n .free-links b h low free g kg;
       }
-    where
-      -- a link of a free record is no link of a used one
-      other : (b : RecordNumber) → 1 ≤ b .0 → usedAt p b ≡ false → (g : ℕ) → g < s .k → linkNumber s b g .0 ≡ l .0 → ⊥
-      other b h free g kg z =
-          true≢false
-          (sym used ∙ ap (λ (i : RecordNumber). usedAt p i) (record-same a b (link-apart s a b f g some h k kg (ap (λ (i : LinkNumber). i .0) e ∙ sym z))) ∙ free)
 
   kept-relinked : {b : RecordNumber} → Kept s p b → Kept s q b
   kept-relinked y = kept-grows p q (λ b h. h) (λ b h. h) changed-grows (c .view) y

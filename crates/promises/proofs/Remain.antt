@@ -19,21 +19,20 @@ use Rattle.rules.specs.declared.RecordNumber.{RecordNumber}
 use Rattle.rules.specs.declared.LinkNumber.{LinkNumber}
 use Rattle.rules.specs.Size.{links, linkNumber}
 use Rattle.rules.specs.Pool.{Entry, Pool, none, ofRecord, usedAt, heldAt, makerAt, valueAt, registersAt, registerAt, logAt, withHeld, withChanged, withRegister, withSnoop, withLog, withHistory}
-use Rattle.rules.specs.Worker.{chosen, makes, added, stores}
+use Rattle.rules.specs.Worker.{chosen, makes, added, linkTakes}
 use Rattle.rules.specs.Collect.{opens, snoops, madeBy, takes, entryHere, clears, heldBy, scans, falls, rises, counted, counts}
 use Rattle.rules.specs.Sound.{Each, Sound}
 use Rattle.laws.proofs.Tests.{eqb-cases}
-use Rattle.laws.proofs.Number.{record-same, link-apart}
+use Rattle.laws.proofs.Number.{record-same}
 use Rattle.laws.proofs.Lists.{set-next, set-cases, withRecord-cases, Each-append}
 use Rattle.laws.proofs.Chosen.{chosen-free}
 use Rattle.laws.proofs.Change.{stored-has}
-use Rattle.laws.proofs.Marks.{on-some, made-own, made-other, heldBy-other}
-use Rattle.laws.proofs.Refusals.{LinkThere}
+use Rattle.laws.proofs.Marks.{on-some, on-low, made-own, made-other, heldBy-other}
 use Rattle.laws.proofs.Phases.{moved, snoops-cases, takes-cases, clears-cases, scans-cases, counts-cases}
 use Rattle.soundness.proofs.Core.{position-in}
-use Rattle.promises.specs.Reach.{Reaches, holds, leads}
+use Rattle.promises.specs.Reach.{Reaches, holds}
 use Rattle.promises.proofs.Invariant.{Named, takenBelow}
-use Rattle.promises.proofs.Apart.{Apart, Shrunk, reach-shrinks, back-register, back-made, stored-values, back-stored}
+use Rattle.promises.proofs.Earlier.{AtHand, Shrunk, reach-shrinks, back-register, back-made, stored-values, back-stored}
 
 -- ---- what is known
 
@@ -90,16 +89,16 @@ module _ {s : Sizes} {p₀ p : Pool} {R : RecordNumber → Type 0} {k i : ℕ} (
 
   -- ---- make
 
-  pub makes-remains : Named s p → (w r : ℕ) → 1 ≤ chosen p .0 → Remains s p₀ (makes w r p .pool) R k i
+  pub makes-remains : Named s p → (w r : ℕ) → 1 ≤ chosen p .0 → chosen p .0 ≤ s .n → Remains s p₀ (makes w r p .pool) R k i
   unfolding makes
-  makes-remains n w r some =
+  makes-remains n w r some low =
       record {
         left =
             λ x y.
             let l = h .left x y in
             record {
               used = ⊎-elim (λ z. z ∙ l .used) (λ z. z .1) (withRecord-cases (p .records .used) (chosen p .0) true x.0 false);
-              unreached = λ v z. ⊎-elim (λ old. l .unreached v old) (λ new. not-new x l (sym (new .1))) (back-made n w r some v x z);
+              unreached = λ v z. ⊎-elim (λ old. l .unreached v old) (λ new. not-new x l (sym (new .1))) (back-made n w r some low v x z);
               unheld = l .unheld;
               links = l .links;
               maker =
@@ -116,15 +115,9 @@ module _ {s : Sizes} {p₀ p : Pool} {R : RecordNumber → Type 0} {k i : ℕ} (
       not-new : (x : RecordNumber) → Left s p₀ p k i x → x ≡ chosen p → ⊥
       not-new x l e = true≢false (sym (l .used) ∙ ap (λ (b : RecordNumber). usedAt p b) e ∙ chosen-free p some)
 
-  -- ---- store
+  -- ---- store, post
 
-  module _ (apart : Apart s p) (w q f r : ℕ) (there : LinkThere s p w q f) where
-    abbrev through : RecordNumber
-    through = registerAt p w q
-
-    abbrev link : LinkNumber
-    link = linkNumber s through f
-
+  module _ (sound : Sound s p) (w : ℕ) (link : LinkNumber) (r : ℕ) (there : AtHand s p w link) where
     abbrev new : RecordNumber
     new = registerAt p w r
 
@@ -134,18 +127,19 @@ module _ {s : Sizes} {p₀ p : Pool} {R : RecordNumber → Type 0} {k i : ℕ} (
 
     not-through : (x : RecordNumber) → R x → (g : ℕ) → g < s .k → link .0 ≡ linkNumber s x g .0 → ⊥
     not-through x y g k e =
-        h .left x y .unreached w
-        (holds q (record-same through x (link-apart s through x f g (there .holds) (left-some (h .left x y)) (there .link) k e)) (left-some (h .left x y)))
+        let low = on-low (p .records .used) x.0 (h .left x y .used) in
+        h .left x y .unreached w (there .owner x (left-some (h .left x y)) (omega (arith, sound .shaped .records .used)) g k (sym e))
 
     not-overwritten : (x : RecordNumber) → R x → valueAt p link ≡ x → ⊥
-    not-overwritten x y e = h .left x y .unreached w (leads f (holds q refl (there .holds)) (there .link) e (left-some (h .left x y)))
+    not-overwritten x y e =
+        h .left x y .unreached w (subst (Reaches s p w) e (there .value (subst (λ (b : RecordNumber). 1 ≤ b .0) (sym e) (left-some (h .left x y)))))
 
     entry-foreign : (x : RecordNumber) → R x → Foreign s x (record { link = link; old = valueAt p link })
     entry-foreign x y = record { link = not-through x y; old = λ e. not-overwritten x y (record-same (valueAt p link) x e) }
 
-    stored-value : (l : LinkNumber) → (valueAt (stores s w q f r p .pool) l ≡ valueAt p l) ⊎ ((l .0 ≡ link .0) × (valueAt (stores s w q f r p .pool) l ≡ new))
+    stored-value : (l : LinkNumber) → (valueAt (linkTakes w link r p .pool) l ≡ valueAt p l) ⊎ ((l .0 ≡ link .0) × (valueAt (linkTakes w link r p .pool) l ≡ new))
     stored-value l =
-        subst (λ values. (getD values l.0 none ≡ valueAt p l) ⊎ ((l .0 ≡ link .0) × (getD values l.0 none ≡ new))) (sym (stored-values w q f r there))
+        subst (λ values. (getD values l.0 none ≡ valueAt p l) ⊎ ((l .0 ≡ link .0) × (getD values l.0 none ≡ new))) (sym (stored-values s p w link r))
         (set-cases (p .links .value) (link .0) new l.0 none)
 
     -- what a store does to one record that remains
@@ -155,10 +149,10 @@ module _ {s : Sizes} {p₀ p : Pool} {R : RecordNumber → Type 0} {k i : ℕ} (
       pub held : heldAt t x ≡ false
       pub logs : (v : ℕ) → v < takenBelow s k i → Each (Foreign s x) (logAt t v)
 
-    stored-kept : (x : RecordNumber) → R x → Untouched x (stores s w q f r p .pool)
+    stored-kept : (x : RecordNumber) → R x → Untouched x (linkTakes w link r p .pool)
     unfolding added
     stored-kept x y =
-        stored-has s p w q f r (Untouched x)
+        stored-has p w link r (Untouched x)
         (λ on t z. record {
           used = z .used;
           maker = z .maker;
@@ -184,8 +178,8 @@ module _ {s : Sizes} {p₀ p : Pool} {R : RecordNumber → Type 0} {k i : ℕ} (
             (Each-append (Foreign s x) (logAt p w) (record { link = link; old = valueAt p link } ∷ []) (l .logs w (subst (λ (u : ℕ). u < takenBelow s k i) (here .0) z)) (entry-foreign x y, tt)))
             (set-cases (p .workers .log) w (logAt p w ++ (record { link = link; old = valueAt p link } ∷ [])) v [])
 
-    pub stores-remains : Remains s p₀ (stores s w q f r p .pool) R k i
-    stores-remains =
+    pub link-takes-remains : Remains s p₀ (linkTakes w link r p .pool) R k i
+    link-takes-remains =
         record {
           left =
               λ x y.
@@ -193,7 +187,7 @@ module _ {s : Sizes} {p₀ p : Pool} {R : RecordNumber → Type 0} {k i : ℕ} (
               let c = stored-kept x y in
               record {
                 used = c .used ∙ l .used;
-                unreached = λ v z. l .unreached v (back-stored w q f r there apart v x z);
+                unreached = λ v z. ⊎-elim (l .unreached v) (l .unreached w) (back-stored s p w link r v x z);
                 unheld = c .held;
                 links =
                     λ g m.

@@ -13,7 +13,7 @@ use Rattle.rules.specs.declared.Sizes.{Sizes}
 use Rattle.rules.specs.declared.RecordNumber.{RecordNumber}
 use Rattle.rules.specs.declared.LinkNumber.{LinkNumber}
 use Rattle.rules.specs.declared.Event.{Event}
-use Rattle.rules.specs.declared.Event.the-variants.{Make, Move, Drop, Load, Store, Collect}
+use Rattle.rules.specs.declared.Event.the-variants.{Make, Move, Drop, Load, Store, Look, Post, Collect}
 use Rattle.rules.specs.declared.Answer.{Answer}
 use Rattle.rules.specs.Size.{linkNumber}
 use Rattle.rules.specs.Pool.{Pool, none, valueAt, changedAt}
@@ -33,13 +33,15 @@ abbrev pub isLinkOfNumber : Sizes → ℕ → LinkNumber → Bool
 isLinkOfNumber s zero l = false
 isLinkOfNumber s (suc i) l = isLinkOf s (record { 0 = suc i }) l
 
--- a collect event empties the links of the record that it answers
+-- a collect event empties the links of the record that it answers; a board entry is no record's
 unfoldable pub emptiedBy : Sizes → Event → Answer → LinkNumber → Bool
 emptiedBy s (Make w r) x l = false
 emptiedBy s (Move w r q) x l = false
 emptiedBy s (Drop w r) x l = false
 emptiedBy s (Load w r q f) x l = false
 emptiedBy s (Store w q f r) x l = false
+emptiedBy s (Look w r e) x l = false
+emptiedBy s (Post w e r) x l = false
 emptiedBy s Collect x l = isLinkOfNumber s (value x) l
 
 -- at a clearing the link's value then, at an emptying none, else what was seen before

@@ -43,12 +43,12 @@ aside-long =
       held = length-replicate {A = ℕ} 64 0;
       candidates = length-replicate {A = ℕ} 64 0;
       makers = length-replicate {A = ℕ} 64 0;
-      values = length-replicate {A = ℕ} 256 0;
-      changed = length-replicate {A = ℕ} 256 0;
+      values = length-replicate {A = ℕ} 264 0;
+      changed = length-replicate {A = ℕ} 264 0;
       registers = length-replicate {A = ℕ} 33 0;
       snoops = length-replicate {A = ℕ} 4 0;
-      logs = length-replicate {A = ℕ} 2048 0;
-      history = length-replicate {A = ℕ} 512 0;
+      logs = length-replicate {A = ℕ} 2112 0;
+      history = length-replicate {A = ℕ} 528 0;
       lengths = length-replicate {A = ℕ} 5 0;
     }
 
@@ -56,7 +56,7 @@ abbrev pub begins : Progress
 begins =
     record {
       reader = record { stage = First; step = 0 };
-      sizes = record { n = 0; k = 0; w = 0; r = 0 };
+      sizes = record { n = 0; k = 0; w = 0; r = 0; b = 0 };
       collector = record { phase = 0; position = 0; closed = 0 };
     }
 

@@ -105,12 +105,12 @@ fn main() {
     let mut held = [0u16; 64];
     let mut candidates = [0u16; 64];
     let mut makers = [0u16; 64];
-    let mut values = [0u16; 256];
-    let mut changed = [0u16; 256];
+    let mut values = [0u16; 264];
+    let mut changed = [0u16; 264];
     let mut registers = [0u16; 33];
     let mut snoops = [0u16; 4];
-    let mut logs = [0u16; 2048];
-    let mut history = [0u16; 512];
+    let mut logs = [0u16; 2112];
+    let mut history = [0u16; 528];
     let mut lengths = [0u16; 5];
     let mut input = [0u8; 16384];
     let mut answers = [0u16; 4684];
@@ -125,6 +125,7 @@ fn main() {
             k: 0,
             w: 0,
             r: 0,
+            b: 0,
         },
         collector: Collector {
             phase: 0,

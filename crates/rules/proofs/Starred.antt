@@ -4,11 +4,11 @@ use mathlib.Core.Bool.{Bool, true, _&&_}
 use mathlib.Core.List.{List, [], _∷_, flatten, zipWith}
 use lib.Dec.{T}
 use lib.Ieee.Fits.{and-l, and-r}
-use Rattle.rules.specs.Size.{inRange, links, linkNumber}
+use Rattle.rules.specs.Size.{inRange, links, linkNumber, boardNumber}
 use Rattle.rules.specs.Pool.{fresh}
 use Rattle.rules.specs.View.{oldIn, lookUp, viewValue}
 use Rattle.rules.specs.Reply.{refusalNumber, number, value}
-use Rattle.rules.specs.Worker.{firstFree, firstAbove, lowest, chosen, makes, moves, drops, loads, added, logged, snooped, stores}
+use Rattle.rules.specs.Worker.{firstFree, firstAbove, lowest, chosen, makes, moves, drops, registerTakes, loads, looks, added, logged, snooped, linkTakes, stores, posts}
 use Rattle.rules.specs.Collect.{phaseAfter, onward, opens, snoops, madeBy, takes, clears, heldBy, scans, falls, rises, counted, counts}
 use Rattle.rules.specs.Collect.{unchangedFrom, passes, firstPassing, reclaimed, emptied, emptiedFrom, frees, closes, freesOrCloses, reclaims, phases, collects}
 use Rattle.rules.specs.Outcome.{noneFree, refusals, decide, does, outcome, start, answers, after, freeMarks, freeRecords}
@@ -17,7 +17,7 @@ use Rattle.rules.specs.Starred.{Row, doneFrom, runs, samePairs, sees, se
 
 -- the test of a row, with every definition open that a run computes through
 unfoldable pub computes : Row → Bool
-unfolding inRange links linkNumber fresh flatten zipWith oldIn lookUp viewValue refusalNumber number value firstFree firstAbove lowest chosen makes moves drops loads added logged snooped stores phaseAfter onward opens snoops madeBy takes clears heldBy scans falls rises counted counts unchangedFrom passes firstPassing reclaimed emptied emptiedFrom frees closes freesOrCloses reclaims phases collects noneFree refusals decide does outcome start answers after freeMarks freeRecords samePairs sees seesAll another holds
+unfolding inRange links linkNumber boardNumber fresh flatten zipWith oldIn lookUp viewValue refusalNumber number value firstFree firstAbove lowest chosen makes moves drops registerTakes loads looks added logged snooped linkTakes stores posts phaseAfter onward opens snoops madeBy takes clears heldBy scans falls rises counted counts unchangedFrom passes firstPassing reclaimed emptied emptiedFrom frees closes freesOrCloses reclaims phases collects noneFree refusals decide does outcome start answers after freeMarks freeRecords samePairs sees seesAll another holds
 computes r = holds r
 
 abbrev every : List Row → Bool

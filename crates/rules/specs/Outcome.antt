@@ -14,7 +14,7 @@ use lib.Dec.{eqb, ltb}
 use Rattle.rules.specs.declared.Sizes.{Sizes}
 use Rattle.rules.specs.declared.RecordNumber.{RecordNumber}
 use Rattle.rules.specs.declared.Event.{Event}
-use Rattle.rules.specs.declared.Event.the-variants.{Make, Move, Drop, Load, Store, Collect}
+use Rattle.rules.specs.declared.Event.the-variants.{Make, Move, Drop, Load, Store, Look, Post, Collect}
 use Rattle.rules.specs.declared.Refusal.{Refusal}
 use Rattle.rules.specs.declared.Refusal.the-variants.{WrongSize, NoSuchWorker, HoldsNone, NoneFree, NoSuchRegister, NoSuchLink}
 use Rattle.rules.specs.declared.Answer.{Answer}
@@ -22,7 +22,7 @@ use Rattle.rules.specs.declared.Answer.the-variants.{Fresh, Refused}
 use Rattle.rules.specs.Size.{inRange}
 use Rattle.rules.specs.Pool.{Pool, registerAt, fresh}
 use Rattle.rules.specs.Reply.{number, value, Outcome}
-use Rattle.rules.specs.Worker.{chosen, makes, moves, drops, loads, stores}
+use Rattle.rules.specs.Worker.{chosen, makes, moves, drops, loads, looks, stores, posts}
 use Rattle.rules.specs.Collect.{collects}
 
 -- ---- the refusals
@@ -36,8 +36,8 @@ pub record Test : Type 0 where
 abbrev pub asked : Bool → Refusal → Test
 asked here why = record { when = not here; why = why }
 
--- "From now on 3 means no such worker. Refusals: 13 register, 14 link, in the order 3, 13, 14 where 3 stood" (document 02, request 2). An event that names no
--- link has none that is not there
+-- "From now on 3 means no such worker. Refusals: 13 register, 14 link, in the order 3, 13, 14 where 3 stood" (document 02, request 2). "14 also for a board
+-- entry that isn't there" (document 02, request 5). An event that names no link has none that is not there
 abbrev pub noSuch : (worker registers links : Bool) → List Test
 noSuch worker registers links = asked worker NoSuchWorker ∷ asked registers NoSuchRegister ∷ asked links NoSuchLink ∷ []
 
@@ -49,6 +49,9 @@ hasRegister s r = ltb r (s .r)
 
 abbrev pub hasLink : Sizes → ℕ → Bool
 hasLink s f = ltb f (s .k)
+
+abbrev pub hasEntry : Sizes → ℕ → Bool
+hasEntry s e = ltb e (s .b)
 
 -- "4: load or store through a register that holds none"
 abbrev pub holdsNone : Pool → ℕ → ℕ → Test
@@ -67,6 +70,8 @@ refusals s p (Drop w r) = noSuch (hasWorker s w) (hasRegister s r) true
 refusals s p (Load w r q f) = noSuch (hasWorker s w) (hasRegister s q && hasRegister s r) (hasLink s f) ++ (holdsNone p w q ∷ [])
 refusals s p (Store w q f r) =
     noSuch (hasWorker s w) (hasRegister s q && hasRegister s r) (hasLink s f) ++ (holdsNone p w q ∷ [])
+refusals s p (Look w r e) = noSuch (hasWorker s w) (hasRegister s r) (hasEntry s e)
+refusals s p (Post w e r) = noSuch (hasWorker s w) (hasRegister s r) (hasEntry s e)
 refusals s p Collect = []
 
 -- "A refused event has the value 0 and changes nothing."
@@ -86,6 +91,8 @@ does s p (Move w r q) = moves w r q p
 does s p (Drop w r) = drops w r p
 does s p (Load w r q f) = loads s w r q f p
 does s p (Store w q f r) = stores s w q f r p
+does s p (Look w r e) = looks s w r e p
+does s p (Post w e r) = posts s w e r p
 does s p Collect = collects s p
 
 unfoldable pub outcome : Sizes → Pool → Event → Outcome
@@ -114,6 +121,8 @@ answersMade a (Move w r q) x = false
 answersMade a (Drop w r) x = false
 answersMade a (Load w r q f) x = false
 answersMade a (Store w q f r) x = false
+answersMade a (Look w r e) x = false
+answersMade a (Post w e r) x = false
 answersMade a Collect x = false
 
 -- a collect event that answers this record: "the answer is the record freed, otherwise 0"
@@ -123,6 +132,8 @@ answersFreed a (Move w r q) x = false
 answersFreed a (Drop w r) x = false
 answersFreed a (Load w r q f) x = false
 answersFreed a (Store w q f r) x = false
+answersFreed a (Look w r e) x = false
+answersFreed a (Post w e r) x = false
 answersFreed a Collect x = eqb (value x) (a .0)
 
 -- whether a record is used after an event, by its answer

@@ -11,7 +11,7 @@ use lib.Dec.{eqb}
 use lib.ListN.{replicate}
 use Rattle.rules.specs.declared.Sizes.{Sizes}
 use Rattle.rules.specs.declared.Event.{Event}
-use Rattle.rules.specs.declared.Event.the-variants.{Make, Drop, Load, Store, Collect}
+use Rattle.rules.specs.declared.Event.the-variants.{Make, Drop, Load, Store, Look, Post, Collect}
 use Rattle.rules.specs.declared.Answer.{Answer}
 use Rattle.rules.specs.Pool.{Entry, Pool, usedAt, changedAt, logAt, fresh}
 use Rattle.rules.specs.Reply.{number, value}
@@ -31,7 +31,7 @@ pub data Seen : Type 0 where
   end : ℕ → ℕ → Seen
 
 pub record Row : Type 0 where
-  -- N, K, W and R
+  -- N, K, W, R and B
   pub sizes : Sizes
   -- 0 where the sizes are taken, else the number of the refusal
   pub taken : ℕ
@@ -40,15 +40,20 @@ pub record Row : Type 0 where
   pub replies : List (ℕ × ℕ)
   pub seen : List Seen
 
+abbrev pub sizesAndBoard : ℕ → ℕ → ℕ → ℕ → ℕ → Sizes
+sizesAndBoard n k w r b = record { n = n; k = k; w = w; r = r; b = b }
+
+-- without a board
 abbrev pub sizesOf : ℕ → ℕ → ℕ → ℕ → Sizes
-sizesOf n k w r = record { n = n; k = k; w = w; r = r }
+sizesOf n k w r = sizesAndBoard n k w r 0
 
 -- rows about the sizes alone: sizes that are taken make the pool fresh, and sizes that are refused leave it as it was, with record 1 used and its link marked
-abbrev pub takenSizes : ℕ → ℕ → Row
-takenSizes n k = record { sizes = sizesOf n k 1 1; taken = 0; events = []; replies = []; seen = used 1 false ∷ changed 0 false ∷ end n 0 ∷ [] }
+abbrev pub takenSizes : ℕ → ℕ → ℕ → Row
+takenSizes n k b =
+    record { sizes = sizesAndBoard n k 1 1 b; taken = 0; events = []; replies = []; seen = used 1 false ∷ changed 0 false ∷ end n 0 ∷ [] }
 
-abbrev pub refusedSizes : ℕ → ℕ → Row
-refusedSizes n k = record { sizes = sizesOf n k 1 1; taken = 1; events = []; replies = []; seen = used 1 true ∷ changed 0 true ∷ [] }
+abbrev pub refusedSizes : ℕ → ℕ → ℕ → Row
+refusedSizes n k b = record { sizes = sizesAndBoard n k 1 1 b; taken = 1; events = []; replies = []; seen = used 1 true ∷ changed 0 true ∷ [] }
 
 abbrev pub row : Sizes → List Event → List (ℕ × ℕ) → List Seen → Row
 row s events replies seen = record { sizes = s; taken = 0; events = events; replies = replies; seen = seen }
@@ -78,11 +83,14 @@ makesAll n = row (sizesOf n 1 1 1) (replicate (suc n) (Make 0 0)) (doneFrom 1 n 
 unfoldable pub runs : List Row
 runs =
     -- "N = 1024 taken, 1025 and 0 refused 1; K = 8 taken, 9 refused."
-    takenSizes 1024 1
-    ∷ refusedSizes 1025 1
-    ∷ refusedSizes 0 1
-    ∷ takenSizes 1 8
-    ∷ refusedSizes 1 9
+    takenSizes 1024 1 0
+    ∷ refusedSizes 1025 1 0
+    ∷ refusedSizes 0 1 0
+    ∷ takenSizes 1 8 0
+    ∷ refusedSizes 1 9 0
+    -- own: "Add B entries, 0 to 16" (document 02, request 5)
+    ∷ takenSizes 1 1 16
+    ∷ refusedSizes 1 1 17
     -- "The listing above": the whole case of "The trace file", of which document 02's request 1 says: "In 01's whole case line 9 becomes `9 0 2`"
     ∷ row (sizesOf 2 1 1 1)
     (Make 0 0 ∷ Drop 0 0 ∷ steps 6 ++ (Make 0 0 ∷ []))
@@ -165,6 +173,23 @@ runs =
     (done 1 ∷ done 2 ∷ done 3 ∷ done 0 ∷ nothing 4
     ++ (done 2 ∷ done 0 ∷ done 0 ∷ nothing 9 ++ (done 2 ∷ done 0 ∷ done 3 ∷ nothing 6 ++ (done 3 ∷ done 0 ∷ []))))
     (used 1 true ∷ end 2 3 ∷ [])
+    -- own: "15 look w r e, 16 post w e r .., with the answers and the barrier of load and store" (document 02, request 5). Entry 1 is link 3; worker 1 looks at what
+    -- worker 0 posted. No entry 2 is there
+    ∷ row (sizesAndBoard 2 1 2 2 2)
+    (Make 0 0 ∷ Look 1 0 0 ∷ Post 0 1 0 ∷ Look 1 0 1 ∷ Look 1 1 0 ∷ Look 1 0 2 ∷ Post 1 2 0 ∷ Post 1 1 0 ∷ Post 0 1 1 ∷ Look 0 0 1 ∷ [])
+    (done 1 ∷ done 0 ∷ done 0 ∷ done 1 ∷ done 0 ∷ (14, 0) ∷ (14, 0) ∷ done 1 ∷ done 1 ∷ done 0 ∷ [])
+    (log 0 ((3, 0) ∷ []) ∷ log 1 [] ∷ changed 2 false ∷ changed 3 true ∷ end 1 0 ∷ [])
+    -- own: "From here "reach" in demand 3 begins at registers and board entries, and board links count" (document 02, request 5). What the board alone holds outlives a
+    -- cycle; posted over it is lost, and the next cycle frees it
+    ∷ row (sizesAndBoard 1 1 1 2 1)
+    (Make 0 0 ∷ Post 0 0 0 ∷ Drop 0 0 ∷ steps 7 ++ (Look 0 1 0 ∷ Drop 0 1 ∷ Post 0 0 1 ∷ steps 8))
+    (done 1 ∷ done 0 ∷ done 0 ∷ nothing 7 ++ (done 1 ∷ done 0 ∷ done 1 ∷ nothing 6 ++ (done 1 ∷ done 0 ∷ [])))
+    (end 1 2 ∷ [])
+    -- own, the barrier of a post: a record posted and posted over while its worker snoops, then dropped, is not freed in this cycle, and is freed in the next
+    ∷ row (sizesAndBoard 1 1 1 2 1)
+    (Make 0 0 ∷ steps 2 ++ (Post 0 0 0 ∷ Post 0 0 1 ∷ Drop 0 0 ∷ steps 11))
+    (done 1 ∷ nothing 2 ++ (done 0 ∷ done 1 ∷ done 0 ∷ nothing 9 ++ (done 1 ∷ done 0 ∷ [])))
+    (end 1 2 ∷ [])
     ∷ []
 
 -- ---- the test

@@ -1,35 +1,40 @@
 // The types of document 01, by value: what a call takes and what it answers.
-//     Sizes          N, K, W and R
+//     Sizes          N, K, W, R and B
 //     RecordNumber   a record's number, 1..N; 0 is none
 //     LinkNumber     a link's number, below S
-//     Event          the five worker events, and the collector's
+//     Event          the seven worker events, and the collector's
 //     Refusal        why a call refuses, a case for each number but 0 of "Numbers a call may answer", and for those of document 02
 //     Answer         what a call answers, a case for each thing that can happen
 //     Collector      the collector's own record
 //     Answered       an answer, together with the collector's record after it
 // What they mean stands in specs/; the numbers that an answer stands for are in specs/Reply.antt.
 
-// "N records 1..1024, K links in each 1..8, W workers 1..8, R registers per worker 1..16."
+// "N records 1..1024, K links in each 1..8, W workers 1..8, R registers per worker 1..16." "Add B entries, 0 to 16, of one record number each" (document 02,
+// request 5): the board.
 pub struct Sizes {
     pub n: u16,
     pub k: u16,
     pub w: u16,
     pub r: u16,
+    pub b: u16,
 }
 
 // "Record numbers and link numbers are counted separately and never stand for one another." The one way from a record to a link is the
-// link-number formula, `linkNumber` of specs/Size.antt.
+// link-number formula, `linkNumber` of specs/Size.antt, and the one way from a board entry to a link is `boardNumber` there.
 pub struct RecordNumber(pub u16);
 
 pub struct LinkNumber(pub u16);
 
-// The letters are document 01's: w a worker, r and q registers of it, f a link of the record in q. Each is one byte, as in a trace.
+// The letters are document 01's: w a worker, r and q registers of it, f a link of the record in q; e is a board entry (document 02, request 5). Each is one byte, as
+// in a trace.
 pub enum Event {
     Make { w: u8, r: u8 },
     Move { w: u8, r: u8, q: u8 },
     Drop { w: u8, r: u8 },
     Load { w: u8, r: u8, q: u8, f: u8 },
     Store { w: u8, q: u8, f: u8, r: u8 },
+    Look { w: u8, r: u8, e: u8 },
+    Post { w: u8, e: u8, r: u8 },
     Collect,
 }
 
@@ -59,7 +64,7 @@ pub enum Refusal {
     WrongCount,
     // 13: no such register (document 02, request 2).
     NoSuchRegister,
-    // 14: no such link (document 02, request 2).
+    // 14: no such link (document 02, request 2), "also for a board entry that isn't there" (document 02, request 5).
     NoSuchLink,
     // 15: two parts differ in sizes (document 02, request 3).
     SizesDiffer,
@@ -76,9 +81,9 @@ pub enum Answer {
     Moved(RecordNumber),
     // drop.
     Dropped,
-    // load: the value that the register took.
+    // load or look: the value that the register took.
     Loaded(RecordNumber),
-    // store: the value overwritten.
+    // store or post: the value overwritten.
     Stored(RecordNumber),
     // collect: a step that freed nothing.
     Stepped,

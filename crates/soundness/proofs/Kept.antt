@@ -17,16 +17,16 @@ use mathlib.Core.List.{List}
 use lib.ListN.{take}
 use Rattle.rules.specs.declared.Sizes.{Sizes}
 use Rattle.rules.specs.declared.Event.{Event}
-use Rattle.rules.specs.declared.Event.the-variants.{Make, Move, Drop, Load, Store, Collect}
+use Rattle.rules.specs.declared.Event.the-variants.{Make, Move, Drop, Load, Store, Look, Post, Collect}
 use Rattle.rules.specs.Size.{inRange}
 use Rattle.rules.specs.Pool.{Pool, fresh}
 use Rattle.rules.specs.Outcome.{does, outcome, after}
 use Rattle.rules.specs.Sound.{Sound}
 use Rattle.laws.proofs.Number.{bounds}
-use Rattle.laws.proofs.Refusals.{decided, can-make, can-store}
+use Rattle.laws.proofs.Refusals.{decided, can-make, can-store, can-post}
 use Rattle.laws.proofs.Runs.{run-keeps}
 use Rattle.soundness.proofs.Steps.{collects-sound}
-use Rattle.soundness.proofs.Events.{makes-sound, moves-sound, drops-sound, loads-sound, stores-sound}
+use Rattle.soundness.proofs.Events.{makes-sound, moves-sound, drops-sound, loads-sound, stores-sound, looks-sound, posts-sound}
 use Rattle.soundness.proofs.Fresh.{fresh-sound}
 
 pub fresh-is-sound : (s : Sizes) → Sound s (fresh s)
@@ -40,6 +40,8 @@ event-keeps-sound s r p h (Drop w q) = decided (Sound s) p h _ _ (λ t. drops-so
 event-keeps-sound s r p h (Load w q f g) = decided (Sound s) p h _ _ (λ t. loads-sound h w q f g)
 event-keeps-sound s r p h (Store w q f g) =
     decided (Sound s) p h _ _ (λ t. let k = can-store s p w q f g t in stores-sound h w q f g (k .0 .worker) (k .2 .link) (k .2 .holds))
+event-keeps-sound s r p h (Look w q e) = decided (Sound s) p h _ _ (λ t. looks-sound h w q e)
+event-keeps-sound s r p h (Post w e q) = decided (Sound s) p h _ _ (λ t. let k = can-post s p w e q t in posts-sound h w e q (k .0 .worker) (k .1))
 event-keeps-sound s r p h Collect = decided (Sound s) p h _ _ (λ t. collects-sound (bounds s r .w-least) h)
 
 -- the pool after the first i events of a run

@@ -11,16 +11,17 @@ use borrow.Author.Tests.{not-true}
 use lib.ListN.{length}
 use Rattle.rules.specs.declared.Sizes.{Sizes}
 use Rattle.rules.specs.declared.LinkNumber.{LinkNumber}
-use Rattle.rules.specs.declared.Event.the-variants.{Store}
-use Rattle.rules.specs.Size.{links, linkNumber}
+use Rattle.rules.specs.declared.Event.the-variants.{Store, Post}
+use Rattle.rules.specs.Size.{links, linkNumber, boardNumber}
 use Rattle.rules.specs.Pool.{Pool, changedAt, registerAt, logAt}
 use Rattle.rules.specs.View.{bit, allLogs}
 use Rattle.rules.specs.Worker.{mustLog}
 use Rattle.rules.specs.Outcome.{refusals}
 use Rattle.rules.specs.Sound.{Sound}
+use Rattle.laws.proofs.Number.{board-inside}
 use Rattle.laws.proofs.Lists.{length-flatten}
 use Rattle.laws.proofs.Room.{room-left}
-use Rattle.laws.proofs.Refusals.{Unrefused, can-store}
+use Rattle.laws.proofs.Refusals.{Unrefused, can-store, can-post}
 use Rattle.soundness.proofs.Core.{core, times-most, links-in-range}
 use Rattle.soundness.proofs.Known.{link-below}
 
@@ -42,3 +43,6 @@ pub store-has-room : (s : Sizes) (p : Pool) → Sound s p → (w q f r : ℕ) �
 store-has-room s p sound w q f r unrefused must =
     let there = can-store s p w q f r unrefused .2 in
     no-log-is-full sound w (linkNumber s (registerAt p w q) f) (link-below sound w q f (there .holds) (there .link)) must
+
+pub post-has-room : (s : Sizes) (p : Pool) → Sound s p → (w e r : ℕ) → Unrefused (refusals s p (Post w e r)) → mustLog p (boardNumber s e) ≡ true → length (logAt p w) < links s
+post-has-room s p sound w e r unrefused must = no-log-is-full sound w (boardNumber s e) (board-inside s e (can-post s p w e r unrefused .1)) must

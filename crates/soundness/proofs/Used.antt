@@ -21,11 +21,12 @@ use Rattle.rules.specs.declared.Refusal.{Refusal}
 use Rattle.rules.specs.declared.Refusal.the-variants.{WrongSize, NotSound, NoSuchWorker, HoldsNone, NoneFree, WrongTag, WrongLength, StopsShort, WrongStep, ExtraByte, WrongCount, NoSuchRegister, NoSuchLink, SizesDiffer, OutputShort}
 use Rattle.rules.specs.declared.Answer.the-variants.{Refused}
 use Rattle.rules.specs.declared.Event.{Event}
-use Rattle.rules.specs.declared.Event.the-variants.{Make, Move, Drop, Load, Store, Collect}
-use Rattle.rules.specs.Size.{inRange}
-use Rattle.rules.specs.Pool.{Pool, ofRecord, withRecord, usedAt, fresh}
+use Rattle.rules.specs.declared.Event.the-variants.{Make, Move, Drop, Load, Store, Look, Post, Collect}
+use Rattle.rules.specs.declared.LinkNumber.{LinkNumber}
+use Rattle.rules.specs.Size.{inRange, linkNumber, boardNumber}
+use Rattle.rules.specs.Pool.{Pool, ofRecord, withRecord, usedAt, registerAt, fresh}
 use Rattle.rules.specs.Reply.{refusalNumber, number, value, Outcome}
-use Rattle.rules.specs.Worker.{chosen, makes, moves, drops, loads, added, stores}
+use Rattle.rules.specs.Worker.{chosen, makes, moves, drops, registerTakes, loads, looks, added, linkTakes, stores, posts}
 use Rattle.rules.specs.Collect.{onward, stepped, opens, snoops, madeBy, takes, clears, scans, falls, rises, counted, counts, emptied, frees, closes, freesOrCloses, reclaims, collects}
 use Rattle.rules.specs.Outcome.{refused, does, outcome, answers, after, answersMade, answersFreed, usedAfter, inUse}
 use Rattle.rules.specs.Sound.{Sound}
@@ -95,9 +96,9 @@ module _ (s : Sizes) (p : Pool) (h : Sound s p) (a : RecordNumber) (some : 1 ≤
       ap (λ table. ofRecord (withRecord table (y .0) false) (a .0) false) (emptied-keeps (λ q. q .records .used) (λ l q. refl) s y 0 (s .k) p)
       ∙ used-set (p .records .used) a y false some-y (omega (arith, h .shaped .records .used))))
 
-  stores-told : (w q f r : ℕ) → Told (Store w q f r) (stores s w q f r p)
-  unfolding usedAfter answersMade answersFreed stores added
-  stores-told w q f r = stored-has s p w q f r (λ t. usedAt t a ≡ usedAt p a) (λ on t e. e) (λ off. refl) (λ on. refl)
+  link-takes-used : (w : ℕ) (l : LinkNumber) (r : ℕ) → usedAt (linkTakes w l r p .pool) a ≡ usedAt p a
+  unfolding added
+  link-takes-used w l r = stored-has p w l r (λ t. usedAt t a ≡ usedAt p a) (λ on t e. e) (λ off. refl) (λ on. refl)
 
   refused-told : (e : Event) (why : Refusal) → Told e (refused why p)
   unfolding usedAfter answersMade answersFreed value
@@ -106,17 +107,21 @@ module _ (s : Sizes) (p : Pool) (h : Sound s p) (a : RecordNumber) (some : 1 ≤
   refused-told (Drop w r) why = refl
   refused-told (Load w r q f) why = refl
   refused-told (Store w q f r) why = refl
+  refused-told (Look w r e) why = refl
+  refused-told (Post w e r) why = refl
   refused-told Collect why = sym (ap (λ t. cond t false (usedAt p a)) (ne-eqb 0 a.0 (λ z. omega arith)))
 
   pub used-event : (e : Event) → Told e (outcome s p e)
-  unfolding outcome does makes moves drops loads usedAfter answersMade answersFreed number value
+  unfolding outcome does makes moves drops registerTakes loads looks stores posts usedAfter answersMade answersFreed number value
   used-event (Make w r) =
       decided-outcome (Told (Make w r)) p (refused-told (Make w r)) _ _ (λ t.
       used-set (p .records .used) a (chosen p) true (can-make s p w r t .1) (chosen-low p))
   used-event (Move w r q) = decided-outcome (Told (Move w r q)) p (refused-told (Move w r q)) _ _ (λ t. refl)
   used-event (Drop w r) = decided-outcome (Told (Drop w r)) p (refused-told (Drop w r)) _ _ (λ t. refl)
   used-event (Load w r q f) = decided-outcome (Told (Load w r q f)) p (refused-told (Load w r q f)) _ _ (λ t. refl)
-  used-event (Store w q f r) = decided-outcome (Told (Store w q f r)) p (refused-told (Store w q f r)) _ _ (λ t. stores-told w q f r)
+  used-event (Store w q f r) = decided-outcome (Told (Store w q f r)) p (refused-told (Store w q f r)) _ _ (λ t. link-takes-used w (linkNumber s (registerAt p w q) f) r)
+  used-event (Look w r e) = decided-outcome (Told (Look w r e)) p (refused-told (Look w r e)) _ _ (λ t. refl)
+  used-event (Post w e r) = decided-outcome (Told (Post w e r)) p (refused-told (Post w e r)) _ _ (λ t. link-takes-used w (boardNumber s e) r)
   used-event Collect = decided-outcome (Told Collect) p (refused-told Collect) _ _ (λ t. collects-told)
 
 -- ---- a run
@@ -154,6 +159,8 @@ module _ (s : Sizes) (p : Pool) (h : Sound s p) (a : RecordNumber) where
   made-was-free (Drop w r) = λ z. absurd (true≢false (sym z))
   made-was-free (Load w r q f) = λ z. absurd (true≢false (sym z))
   made-was-free (Store w q f r) = λ z. absurd (true≢false (sym z))
+  made-was-free (Look w r e) = λ z. absurd (true≢false (sym z))
+  made-was-free (Post w e r) = λ z. absurd (true≢false (sym z))
   made-was-free Collect = λ z. absurd (true≢false (sym z))
 
   -- only the step of phase 6 frees, and what it frees passed the search
@@ -164,6 +171,8 @@ module _ (s : Sizes) (p : Pool) (h : Sound s p) (a : RecordNumber) where
   freed-passed (Drop w r) some = λ z. absurd (true≢false (sym z))
   freed-passed (Load w r q f) some = λ z. absurd (true≢false (sym z))
   freed-passed (Store w q f r) some = λ z. absurd (true≢false (sym z))
+  freed-passed (Look w r e) some = λ z. absurd (true≢false (sym z))
+  freed-passed (Post w e r) some = λ z. absurd (true≢false (sym z))
   freed-passed Collect some =
       decided-outcome Took p (λ why. no-record) _ _ (λ t.
       by-phase s p Took (h .phase) (λ e. no-record) (λ e. no-record) (λ e. no-record) (λ e. no-record) (λ e. no-record) (λ e. no-record)

@@ -5,10 +5,10 @@ use rules::Sizes;
 ghost use mathlib.Core.Path.{_≡_};
 ghost use mathlib.Core.Bool.{true};
 ghost use Prim.Native.Nat.{_+_, _-_, _*_, _≤_, _<_};
-ghost use Rattle.rules.specs.Size.{inRange, links, linkNumber};
+ghost use Rattle.rules.specs.Size.{inRange, links, linkNumber, boardNumber};
 ghost use Rattle.tables.specs.Lie.{room};
 
-// "N records 1..1024, K links in each 1..8, W workers 1..8, R registers per worker 1..16."
+// "N records 1..1024, K links in each 1..8, W workers 1..8, R registers per worker 1..16." "Add B entries, 0 to 16" (document 02, request 5)
 pub fn in_range(s: Sizes) -> bool
     ensures { λ x. ⌜ x ≡ inRange s ⌝ }
 {
@@ -16,6 +16,7 @@ pub fn in_range(s: Sizes) -> bool
         & ((1 <= s.k) & (s.k <= 8))
         & ((1 <= s.w) & (s.w <= 8))
         & ((1 <= s.r) & (s.r <= 16))
+        & (s.b <= 16)
 }
 
 // A number of a table, as an index is.
@@ -33,12 +34,12 @@ pub fn record_place(a: RecordNumber) -> usize
     wide(a.0) - 1
 }
 
-// "There are S = N x K links."
+// "S becomes N x K + B" (document 02, request 5)
 pub fn link_count(s: Sizes) -> u16
     requires { ⌜ inRange s ≡ true ⌝ }
-    ensures { λ x. ⌜ (x ≡ links s) × (x ≤ 8192) ⌝ }
+    ensures { λ x. ⌜ (x ≡ links s) × (x ≤ 8208) ⌝ }
 {
-    s.n * s.k
+    s.n * s.k + s.b
 }
 
 // "Link f of record a has the number (a-1) x K + f.": the one way from a record number to a link number.
@@ -47,6 +48,14 @@ pub fn link_number(s: Sizes, a: RecordNumber, f: u16) -> LinkNumber
     ensures { λ l. ⌜ (l ≡ linkNumber s a f) × (l .0 < links s) ⌝ }
 {
     LinkNumber((a.0 - 1) * s.k + f)
+}
+
+// "They are links like the others, numbered N x K and up" (document 02, request 5): the one way from a board entry to a link number.
+pub fn board_number(s: Sizes, e: u16) -> LinkNumber
+    requires { ⌜ (inRange s ≡ true) × (e < s .b) ⌝ }
+    ensures { λ l. ⌜ (l ≡ boardNumber s e) × (l .0 < links s) ⌝ }
+{
+    LinkNumber(s.n * s.k + e)
 }
 
 // "register r of worker w at place w x R + r"

@@ -14,7 +14,7 @@ use lib.ListN.{length, drop}
 use Rattle.rules.specs.declared.Sizes.{Sizes}
 use Rattle.rules.specs.declared.RecordNumber.{RecordNumber}
 use Rattle.rules.specs.declared.Event.{Event}
-use Rattle.rules.specs.declared.Event.the-variants.{Make, Move, Drop, Load, Store, Collect}
+use Rattle.rules.specs.declared.Event.the-variants.{Make, Move, Drop, Load, Store, Look, Post, Collect}
 use Rattle.rules.specs.declared.Answer.{Answer}
 use Rattle.rules.specs.Pool.{Pool}
 use Rattle.rules.specs.Outcome.{outcome, answers, after, answersFreed}
@@ -62,6 +62,8 @@ line-frees a (Move w r q) step x = refl
 line-frees a (Drop w r) step x = refl
 line-frees a (Load w r q f) step x = refl
 line-frees a (Store w q f r) step x = refl
+line-frees a (Look w r e) step x = refl
+line-frees a (Post w e r) step x = refl
 line-frees a Collect step x = refl
 
 pub lines-free : (s : Sizes) (p : Pool) (a : RecordNumber) (step : ℕ) (events later : List Event)

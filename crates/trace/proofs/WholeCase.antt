@@ -8,7 +8,7 @@ use mathlib.Core.List.{List, [], _∷_, _++_}
 use Rattle.rules.specs.declared.Event.the-variants.{Make, Drop, Collect}
 use Rattle.rules.proofs.Starred.{computes}
 use Rattle.trace.specs.declared.Ending.the-variants.{Whole}
-use Rattle.fields.specs.Field.{payloadOf, eventAt, refusals, decide, taken, fieldAt, behindEnd, readAt}
+use Rattle.fields.specs.Field.{payloadOf, payloadFor, eventAt, refusals, decide, taken, fieldAt, behindEnd, readAt}
 use Rattle.trace.specs.Replay.{Line, goes, replayed}
 use Rattle.trace.specs.Stretch.{stretchOf, stretch}
 use Rattle.trace.specs.Promise.{eventsOf, lineAt, lineFrees}
@@ -31,18 +31,18 @@ line step number value = record { step = step; number = number; value = value }
 
 printed : replayed (λ s. true) bytes .lines
     ≡ line 1 0 1 ∷ line 2 0 0 ∷ line 3 0 0 ∷ line 4 0 0 ∷ line 5 0 0 ∷ line 6 0 0 ∷ line 7 0 1 ∷ line 8 0 0 ∷ line 9 0 2 ∷ []
-unfolding computes collectAt bytes line payloadOf eventAt refusals decide taken fieldAt behindEnd readAt goes replayed
+unfolding computes collectAt bytes line payloadOf payloadFor eventAt refusals decide taken fieldAt behindEnd readAt goes replayed
 printed = refl
 
 ended : replayed (λ s. true) bytes .ending ≡ Whole 1 1
-unfolding computes collectAt bytes line payloadOf eventAt refusals decide taken fieldAt behindEnd readAt goes replayed
+unfolding computes collectAt bytes line payloadOf payloadFor eventAt refusals decide taken fieldAt behindEnd readAt goes replayed
 ended = refl
 
 -- the words of what is promised speak of these events, and of the line that frees record 1
 events : eventsOf bytes ≡ Make 0 0 ∷ Drop 0 0 ∷ Collect ∷ Collect ∷ Collect ∷ Collect ∷ Collect ∷ Collect ∷ Make 0 0 ∷ []
-unfolding computes collectAt bytes payloadOf eventAt refusals decide taken fieldAt behindEnd readAt stretchOf stretch eventsOf
+unfolding computes collectAt bytes payloadOf payloadFor eventAt refusals decide taken fieldAt behindEnd readAt stretchOf stretch eventsOf
 events = refl
 
 freed : lineFrees (record { 0 = 1 }) Collect (lineAt (replayed (λ s. true) bytes .lines) 6) ≡ true
-unfolding computes collectAt bytes payloadOf eventAt refusals decide taken fieldAt behindEnd readAt goes replayed lineFrees
+unfolding computes collectAt bytes payloadOf payloadFor eventAt refusals decide taken fieldAt behindEnd readAt goes replayed lineFrees
 freed = refl

@@ -14,7 +14,7 @@ use lib.ListN.{getD}
 use Rattle.rules.specs.declared.Sizes.{Sizes}
 use Rattle.rules.specs.declared.RecordNumber.{RecordNumber}
 use Rattle.rules.specs.declared.Event.{Event}
-use Rattle.rules.specs.declared.Event.the-variants.{Make, Move, Drop, Load, Store, Collect}
+use Rattle.rules.specs.declared.Event.the-variants.{Make, Move, Drop, Load, Store, Look, Post, Collect}
 use Rattle.rules.specs.declared.Refusal.{Refusal}
 use Rattle.rules.specs.Size.{inRange}
 use Rattle.rules.specs.Pool.{fresh}
@@ -60,6 +60,8 @@ lineFrees a (Move w r q) line = false
 lineFrees a (Drop w r) line = false
 lineFrees a (Load w r q f) line = false
 lineFrees a (Store w q f r) line = false
+lineFrees a (Look w r e) line = false
+lineFrees a (Post w e r) line = false
 lineFrees a Collect line = eqb (line .value) (a .0)
 
 -- one of some events, whose lines are the first of these

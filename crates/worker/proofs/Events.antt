@@ -1,7 +1,8 @@
--- What make, move, drop and load do to known tables, where nothing refuses them.
+-- What make, move, drop, load and look do to known tables, where nothing refuses them.
 --     register-takes, register-low     a register takes a record number, and holds one in range
 --     chosen-inside       the record that a make takes is one of the pool's
---     made, moved, dropped, loaded     the events
+--     register-taken      what load and look do
+--     made, moved, dropped, loaded, looked     the events
 -- Assumes nothing.
 use Prim.Native.Nat.{ℕ, _+_, _-_, _*_, _≤_, _<_}
 use mathlib.Core.Path.{_≡_, refl, sym, ap, _∙_}
@@ -14,15 +15,16 @@ use lib.ListN.{getD, set, length-map}
 use Rattle.rules.specs.declared.Sizes.{Sizes}
 use Rattle.rules.specs.declared.RecordNumber.{RecordNumber}
 use Rattle.rules.specs.declared.LinkNumber.{LinkNumber}
-use Rattle.rules.specs.declared.Event.the-variants.{Make, Move, Drop, Load}
+use Rattle.rules.specs.declared.Event.{Event}
+use Rattle.rules.specs.declared.Event.the-variants.{Make, Move, Drop, Load, Look}
 use Rattle.rules.specs.declared.Answer.the-variants.{Made, Moved, Dropped, Loaded}
 use Rattle.rules.specs.declared.Collector.{Collector}
-use Rattle.rules.specs.Size.{linkNumber}
+use Rattle.rules.specs.Size.{linkNumber, boardNumber}
 use Rattle.rules.specs.Pool.{Pool, none, withRecord, valueAt, registerAt, withUsed, withMaker, withLast, withRegister}
-use Rattle.rules.specs.Worker.{chosen, makes, moves, drops, loads}
-use Rattle.rules.specs.Outcome.{hasWorker, hasRegister, hasLink, noneFree, refusals, does}
+use Rattle.rules.specs.Worker.{chosen, makes, moves, drops, registerTakes, loads, looks}
+use Rattle.rules.specs.Outcome.{hasWorker, hasRegister, hasLink, hasEntry, noneFree, refusals, does, outcome}
 use Rattle.laws.proofs.Chosen.{chosen-low}
-use Rattle.laws.proofs.Refusals.{register-there, registers-there, hasNumbers, numbers-there}
+use Rattle.laws.proofs.Refusals.{register-there, registers-there, hasNumbers, numbers-there, entry-there}
 use Rattle.tables.specs.Tables.{Tables, putUsed, putMakers, putRegisters}
 use Rattle.tables.specs.Lie.{isOn, marks, recordNumber, bits, poolOf, tablesOf}
 use Rattle.tables.specs.Known.{Known}
@@ -112,6 +114,15 @@ module _ {s : Sizes} {t : Tables} {c : Collector} (known : Known s t c) where
       putRegisters (set (set (t .registers) (s .w * s .r) a) (place w r) a)
       (putMakers (number-set (t .makers) a (w + 1) some j) (putUsed (mark-set (t .used) a true some (known .tables .marked .used) j) t))))
 
+  -- a register takes what a link holds
+  pub register-taken : (e : Event) (w r : ℕ) (l : LinkNumber) → outcome s p e ≡ registerTakes w r l p → w < s .w → r < s .r
+      → let a : ℕ = getD (t .values) (l .0) 0 in
+      eventOn s t c e ≡ record { answer = Loaded (recordNumber a); collector = c; tables = putRegisters (set (t .registers) (place w r) a) t }
+  unfolding registerTakes poolOf
+  register-taken e w r l done k m =
+      done-on known e (registerTakes w r l p) _ done (register-takes w r (valueAt p l) k m)
+      ∙ (λ j. let a : RecordNumber = value-stands s t c l j in record { answer = Loaded a; collector = c; tables = putRegisters (set (t .registers) (place w r) (a .0)) t })
+
   -- the link of the record in a register
   abbrev linkOf : ℕ → ℕ → ℕ → LinkNumber
   linkOf w q f = linkNumber s (recordNumber (getD (t .registers) (place w q) 0)) f
@@ -124,14 +135,21 @@ module _ {s : Sizes} {t : Tables} {c : Collector} (known : Known s t c) where
       → (getD (t .registers) (place w q) 0 ≡ 0 → ⊥)
       → let a : ℕ = getD (t .values) (linkOf w q f .0) 0 in
       eventOn s t c (Load w r q f) ≡ record { answer = Loaded (recordNumber a); collector = c; tables = putRegisters (set (t .registers) (place w r) a) t }
-  unfolding refusals does loads poolOf
+  unfolding refusals does loads
   loaded w r q f here some =
       let base = base-stands w q r f here in
       let unempty : eqb (registerAt p w q .0) 0 ≡ false = ne-eqb (registerAt p w q .0) 0 (λ e. some (ap (λ (a : RecordNumber). a .0) (sym base) ∙ e)) in
       let at = numbers-there s w q r f here in
-      let value : valueAt p (linkNumber s (registerAt p w q) f) ≡ recordNumber (getD (t .values) (linkOf w q f .0) 0) =
-      ap (λ (a : RecordNumber). valueAt p (linkNumber s a f)) base ∙ value-stands s t c (linkOf w q f) in
-      done-on known (Load w r q f) (loads s w r q f p) _
-      (unrefused known (Load w r q f) (hasWorker s w) (hasRegister s q && hasRegister s r) (hasLink s f) refl here (unempty, tt))
-      (register-takes w r (valueAt p (linkNumber s (registerAt p w q) f)) (at .0 .worker) (at .1))
-      ∙ (λ j. record { answer = Loaded (value j); collector = c; tables = putRegisters (set (t .registers) (place w r) (value j .0)) t })
+      register-taken (Load w r q f) w r (linkOf w q f)
+      (unrefused known (Load w r q f) (hasWorker s w) (hasRegister s q && hasRegister s r) (hasLink s f) refl here (unempty, tt)
+      ∙ ap (λ (a : RecordNumber). registerTakes w r (linkNumber s a f) p) base)
+      (at .0 .worker)
+      (at .1)
+
+  pub looked : (w r e : ℕ) → (hasWorker s w && hasRegister s r && hasEntry s e) ≡ true
+      → let a : ℕ = getD (t .values) (boardNumber s e .0) 0 in
+      eventOn s t c (Look w r e) ≡ record { answer = Loaded (recordNumber a); collector = c; tables = putRegisters (set (t .registers) (place w r) a) t }
+  unfolding refusals does looks
+  looked w r e here =
+      let at = entry-there s w r e here in
+      register-taken (Look w r e) w r (boardNumber s e) (unrefused known (Look w r e) (hasWorker s w) (hasRegister s r) (hasEntry s e) refl here tt) (at .0 .worker) (at .0 .register)

@@ -1,10 +1,11 @@
--- What a store does to known tables, where nothing refuses it.
+-- What a store or a post does to known tables, where nothing refuses it.
 --     logged-on      "(link, its value) is added to w's log and the mark goes on", where the mark is off
---     room-stands    there is room for an entry
---     stored         the event
+--     room-stands      there is room for the entry
+--     link-taken     what store and post do
+--     stored, posted     the events
 -- Assumes nothing.
 use Prim.Native.Nat.{ℕ, _+_, _*_, _<_}
-use mathlib.Core.Path.{_≡_, refl, sym, ap, _∙_, subst}
+use mathlib.Core.Path.{_≡_, refl, sym, ap, _∙_}
 use mathlib.Core.Bool.{Bool, true, false, cond, not, _&&_}
 use mathlib.Core.List.{List, [], _∷_, _++_}
 use native.Mathlib.Omega.{arith}
@@ -14,16 +15,17 @@ use lib.ListN.{length, getD, set}
 use Rattle.rules.specs.declared.Sizes.{Sizes}
 use Rattle.rules.specs.declared.RecordNumber.{RecordNumber}
 use Rattle.rules.specs.declared.LinkNumber.{LinkNumber}
-use Rattle.rules.specs.declared.Event.the-variants.{Store}
+use Rattle.rules.specs.declared.Event.{Event}
+use Rattle.rules.specs.declared.Event.the-variants.{Store, Post}
 use Rattle.rules.specs.declared.Answer.the-variants.{Stored}
 use Rattle.rules.specs.declared.Collector.{Collector}
-use Rattle.rules.specs.Size.{links, linkNumber}
-use Rattle.rules.specs.Pool.{Entry, Pool, withRecord, valueAt, changedAt, registerAt, snoopsAt, logAt, withHeld, withValue, withLog}
-use Rattle.rules.specs.Worker.{added, logged, snooped, stores}
-use Rattle.rules.specs.Outcome.{hasWorker, hasRegister, hasLink, refusals, does}
+use Rattle.rules.specs.Size.{links, linkNumber, boardNumber}
+use Rattle.rules.specs.Pool.{Entry, Pool, withRecord, valueAt, registerAt, snoopsAt, logAt, withHeld, withValue, withLog}
+use Rattle.rules.specs.Worker.{added, logged, snooped, linkTakes, stores, posts}
+use Rattle.rules.specs.Outcome.{hasWorker, hasRegister, hasLink, hasEntry, refusals, does, outcome}
 use Rattle.laws.proofs.Change.{logged-keeps, stored-has}
-use Rattle.laws.proofs.Refusals.{hasNumbers, numbers-there}
-use Rattle.soundness.proofs.Known.{link-below}
+use Rattle.laws.proofs.Number.{board-inside}
+use Rattle.laws.proofs.Refusals.{hasNumbers, numbers-there, entry-there}
 use Rattle.soundness.proofs.NoFullLog.{no-log-is-full}
 use Rattle.tables.specs.Tables.{Tables, putHeld, putValues, putChanged, putLogs, putLengths}
 use Rattle.tables.specs.Lie.{isOn, bits, recordNumber, room, poolOf, tablesOf}
@@ -34,7 +36,7 @@ use Rattle.tables.proofs.Stand.{value-stands, changed-stands, register-stands, 
 use Rattle.tables.proofs.Marks.{bits-marks}
 use Rattle.tables.proofs.Written.{mark-record, value-written, changed-written, log-added}
 use Rattle.tables.proofs.Done.{done-on}
-use Rattle.worker.specs.Lent.{nextEntry, loggedOn, heldAfter}
+use Rattle.worker.specs.Lent.{nextEntry, loggedOn, heldAfter, linkTaken}
 use Rattle.worker.proofs.Refused.{unrefused}
 use Rattle.worker.proofs.Events.{base-stands}
 
@@ -131,9 +133,14 @@ module _ {s : Sizes} {t : Tables} {c : Collector} (known : Known s t c) where
       (((λ i. bits (cond (getD (snoop i) w false) (withRecord (held i) (a .0) true) (held i))) ∙ held-on w a) j)
       ((valued-on w l a k free ∙ ap (λ (old : RecordNumber). putValues (set (t .values) (l .0) (a .0)) (loggedOn s w l old t)) (value-stands s t c l)) j))
 
-  store-collector : (w q f r : ℕ) → stores s w q f r p .pool .collector ≡ c
+  store-collector : (w : ℕ) (l : LinkNumber) (r : ℕ) → linkTakes w l r p .pool .collector ≡ c
   unfolding added poolOf
-  store-collector w q f r = stored-has s p w q f r (λ x. x .collector ≡ c) (λ on x h. h) (λ off. refl) (λ on. refl)
+  store-collector w l r = stored-has p w l r (λ x. x .collector ≡ c) (λ on x h. h) (λ off. refl) (λ on. refl)
+
+  -- "a worker's log in a sound pool never has S entries when a store must log" (document 02, request 4), in the tables
+  pub room-stands : (w : ℕ) (l : LinkNumber) → w < s .w → l .0 < links s → isOn (getD (t .changed) (l .0) 0) ≡ false → getD (t .lengths) w 0 < links s
+  room-stands w l k inside off =
+      omega (arith, no-log-is-full (known .tables .sound) w l inside (ap not (changed-stands s t c l ∙ off)), log-length s t c known w k)
 
   -- the place of a register, and the link of the record that it holds
   abbrev place : ℕ → ℕ → ℕ
@@ -142,43 +149,41 @@ module _ {s : Sizes} {t : Tables} {c : Collector} (known : Known s t c) where
   abbrev pub linkThrough : ℕ → ℕ → ℕ → LinkNumber
   linkThrough w q f = linkNumber s (recordNumber (getD (t .registers) (place w q) 0)) f
 
-  -- "a worker's log in a sound pool never has S entries when a store must log" (document 02, request 4), in the tables
-  pub room-stands : (w : ℕ) (l : LinkNumber) → w < s .w → l .0 < links s → isOn (getD (t .changed) (l .0) 0) ≡ false → getD (t .lengths) w 0 < links s
-  room-stands w l k inside off =
-      omega (arith, no-log-is-full (known .tables .sound) w l inside (ap not (changed-stands s t c l ∙ off)), log-length s t c known w k)
+  -- a link takes what a register holds
+  pub link-taken : (e : Event) (w : ℕ) (l : LinkNumber) (r : ℕ) → outcome s p e ≡ linkTakes w l r p → w < s .w → r < s .r → l .0 < links s
+      → eventOn s t c e ≡ record { answer = Stored (recordNumber (getD (t .values) (l .0) 0)); collector = c; tables = linkTaken s w l r t }
+  unfolding linkTakes snooped linkTaken
+  link-taken e w l r done k m inside =
+      done-on known e (linkTakes w l r p) _ done
+      (ap (λ (a : RecordNumber). tablesOf s (snooped w a (withValue l a (logged w l p)))) (register-stands s t c w r k m)
+      ∙ store-tables w l (recordNumber (getD (t .registers) (place w r) 0)) k (room-stands w l k inside))
+      ∙ (λ j. record { answer = Stored (value-stands s t c l j); collector = store-collector w l r j; tables = linkTaken s w l r t })
 
   pub stored : (w q f r : ℕ) → hasNumbers s w q r f ≡ true
       → (getD (t .registers) (place w q) 0 ≡ 0 → ⊥)
+      → linkThrough w q f .0 < links s
       → let l : LinkNumber = linkThrough w q f in
-      let old : RecordNumber = recordNumber (getD (t .values) (l .0) 0) in
-      let new : RecordNumber = recordNumber (getD (t .registers) (place w r) 0) in
-      eventOn s t c (Store w q f r)
-      ≡ record {
-        answer = Stored old;
-        collector = c;
-        tables = putHeld (heldAfter w new (t .snoops) (t .held)) (putValues (set (t .values) (l .0) (new .0)) (loggedOn s w l old t));
-      }
-  unfolding refusals does stores snooped
-  stored w q f r here some =
+      eventOn s t c (Store w q f r) ≡ record { answer = Stored (recordNumber (getD (t .values) (l .0) 0)); collector = c; tables = linkTaken s w l r t }
+  unfolding refusals does stores
+  stored w q f r here some inside =
       let at = numbers-there s w q r f here in
-      let l : LinkNumber = linkThrough w q f in
       let base = base-stands known w q r f here in
-      let new : registerAt p w r ≡ recordNumber (getD (t .registers) (place w r) 0) = register-stands s t c w r (at .0 .worker) (at .1) in
-      let link : linkNumber s (registerAt p w q) f ≡ l = ap (λ (a : RecordNumber). linkNumber s a f) base in
-      let full : registerAt p w q .0 ≡ 0 → ⊥ = (λ e. some (ap (λ (a : RecordNumber). a .0) (sym base) ∙ e)) in
-      let inside : l .0 < links s = subst (λ (m : LinkNumber). m .0 < links s) link (link-below (known .tables .sound) w q f (omega arith) (at .2)) in
-      let unempty : eqb (registerAt p w q .0) 0 ≡ false = ne-eqb (registerAt p w q .0) 0 full in
-      done-on known (Store w q f r) (stores s w q f r p) _
-      (unrefused known (Store w q f r) (hasWorker s w) (hasRegister s q && hasRegister s r) (hasLink s f) refl here
-      (unempty, tt))
-      (ap (λ (m : LinkNumber). tablesOf s (snooped w (registerAt p w r) (withValue m (registerAt p w r) (logged w m p)))) link
-      ∙ ap (λ (a : RecordNumber). tablesOf s (snooped w a (withValue l a (logged w l p)))) new
-      ∙ store-tables w l (recordNumber (getD (t .registers) (place w r) 0)) (at .0 .worker) (room-stands w l (at .0 .worker) inside))
-      ∙ (λ j.
-      record {
-        answer = Stored ((ap (valueAt p) link ∙ value-stands s t c l) j);
-        collector = store-collector w q f r j;
-        tables =
-            putHeld (heldAfter w (recordNumber (getD (t .registers) (place w r) 0)) (t .snoops) (t .held))
-            (putValues (set (t .values) (l .0) (getD (t .registers) (place w r) 0)) (loggedOn s w l (recordNumber (getD (t .values) (l .0) 0)) t));
-      })
+      let link : linkNumber s (registerAt p w q) f ≡ linkThrough w q f = ap (λ (a : RecordNumber). linkNumber s a f) base in
+      let unempty : eqb (registerAt p w q .0) 0 ≡ false = ne-eqb (registerAt p w q .0) 0 (λ e. some (ap (λ (a : RecordNumber). a .0) (sym base) ∙ e)) in
+      link-taken (Store w q f r) w (linkThrough w q f) r
+      (unrefused known (Store w q f r) (hasWorker s w) (hasRegister s q && hasRegister s r) (hasLink s f) refl here (unempty, tt) ∙ ap (λ (l : LinkNumber). linkTakes w l r p) link)
+      (at .0 .worker)
+      (at .1)
+      inside
+
+  pub posted : (w e r : ℕ) → (hasWorker s w && hasRegister s r && hasEntry s e) ≡ true
+      → let l : LinkNumber = boardNumber s e in
+      eventOn s t c (Post w e r) ≡ record { answer = Stored (recordNumber (getD (t .values) (l .0) 0)); collector = c; tables = linkTaken s w l r t }
+  unfolding refusals does posts
+  posted w e r here =
+      let at = entry-there s w r e here in
+      link-taken (Post w e r) w (boardNumber s e) r
+      (unrefused known (Post w e r) (hasWorker s w) (hasRegister s r) (hasEntry s e) refl here tt)
+      (at .0 .worker)
+      (at .0 .register)
+      (board-inside s e (at .1))

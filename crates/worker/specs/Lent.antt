@@ -1,7 +1,8 @@
--- The tables that a worker event is lent, put among the others; and the two parts of a store that may or may not happen, on tables.
+-- The tables that a worker event is lent, put among the others; and what a store or a post does to tables, with the two parts of it that may or may not happen.
 --     makesOn, loadsOn, storesOn, logsOn     tables of which those that are lent are at hand
 --     RoomToLog, loggedOn                    "(link, its value) is added to w's log and the mark goes on", where the mark is off
 --     heldAfter                              "if w snoops and the value is not none, that record is marked held"
+--     linkTaken                              a link takes what a register holds: both, and the value
 -- Assumes nothing.
 use Prim.Native.Nat.{ℕ, _+_, _*_, _<_}
 use mathlib.Core.Path.{_≡_}
@@ -15,7 +16,7 @@ use Rattle.rules.specs.declared.LinkNumber.{LinkNumber}
 use Rattle.rules.specs.Size.{inRange, links}
 use Rattle.rules.specs.Pool.{withRecord}
 use Rattle.tables.specs.Tables.{Tables, putUsed, putHeld, putMakers, putValues, putChanged, putRegisters, putSnoops, putLogs, putLengths}
-use Rattle.tables.specs.Lie.{isOn, room}
+use Rattle.tables.specs.Lie.{isOn, recordNumber, room}
 
 abbrev pub makesOn : (used makers registers : RefT (List ℕ)) → Tables → Tables
 makesOn used makers registers t = putUsed (now used) (putMakers (now makers) (putRegisters (now registers) t))
@@ -52,3 +53,10 @@ loggedOn s w l old t =
 
 unfoldable pub heldAfter : ℕ → RecordNumber → List ℕ → List ℕ → List ℕ
 heldAfter w a snoops held = cond (isOn (getD snoops w 0)) (withRecord held (a .0) 1) held
+
+-- "the link takes what r holds"
+unfoldable pub linkTaken : Sizes → ℕ → LinkNumber → ℕ → Tables → Tables
+linkTaken s w l r t =
+    let old : RecordNumber = recordNumber (getD (t .values) (l .0) 0) in
+    let new : RecordNumber = recordNumber (getD (t .registers) (w * s .r + r) 0) in
+    putHeld (heldAfter w new (t .snoops) (t .held)) (putValues (set (t .values) (l .0) (new .0)) (loggedOn s w l old t))

@@ -1,11 +1,13 @@
 // The worker events of document 01, each on the tables that it touches, of a pool that is known to be sound. All of it is inner (decision 4 of
 // docs/DECISIONS.md): the call on a whole pool is `pool::event`.
-//     makes, moves, drops, loads, stores    the events; each has the name of its definition in rules/specs/Worker.antt
-//     has_worker, has_register, has_link    whether the numbers that an event names are there
-//     wrong_number                          which of them was wrong
-//     chosen, first_free                    the record that a make takes
-//     full_before, eight_used               used records, eight in a turn
-//     logged, snooped                       the parts of a store that may or may not happen
+//     makes, moves, drops, loads, looks, stores, posts    the events; each has the name of its definition in rules/specs/Worker.antt
+//     has_worker, has_register, has_link, has_entry       whether the numbers that an event names are there
+//     wrong_number                                        which of them was wrong
+//     chosen, first_free                                  the record that a make takes
+//     full_before, eight_used                             used records, eight in a turn
+//     register_takes                                      what load and look do: a register takes what a link holds
+//     link_takes                                          what store and post do: a link takes what a register holds
+//     logged, snooped                                     the parts of it that may or may not happen
 use rules::Answer;
 use rules::Collector;
 use rules::Event;
@@ -15,6 +17,7 @@ use rules::Refusal;
 use rules::Sizes;
 use tables::mark::is_on;
 use tables::mark::set_mark;
+use tables::place::board_number;
 use tables::place::last_place;
 use tables::place::link_number;
 use tables::place::log_place;
@@ -22,15 +25,16 @@ use tables::place::record_place;
 use tables::place::register_place;
 use tables::place::wide;
 ghost use mathlib.Core.Path.{_≡_};
-ghost use Prim.Native.Nat.{_+_, _≤_, _<_};
-ghost use lib.ListN.{length};
+ghost use Prim.Native.Nat.{_+_, _*_, _≤_, _<_};
+ghost use lib.ListN.{length, getD, set};
+ghost use Rattle.rules.specs.Size.{links};
 ghost use Rattle.rules.specs.Pool.{Pool};
 ghost use Rattle.rules.specs.Worker.{chosen as chosenIn};
-ghost use Rattle.rules.specs.Outcome.{hasWorker, hasRegister, hasLink};
+ghost use Rattle.rules.specs.Outcome.{hasWorker, hasRegister, hasLink, hasEntry};
 ghost use Rattle.tables.specs.Tables.{Tables, putRegisters};
-ghost use Rattle.tables.specs.Lie.{marks};
+ghost use Rattle.tables.specs.Lie.{marks, recordNumber};
 ghost use Rattle.tables.specs.Event.{SomePool, Answers};
-ghost use Rattle.worker.specs.Lent.{makesOn, loadsOn, storesOn, logsOn, loggedOn, RoomToLog, heldAfter};
+ghost use Rattle.worker.specs.Lent.{makesOn, loadsOn, storesOn, logsOn, loggedOn, RoomToLog, heldAfter, linkTaken};
 ghost use Rattle.worker.specs.Raw.{wrongNumber, allOn, freeFrom};
 
 // "3 means no such worker": there is such a one.
@@ -52,6 +56,13 @@ fn has_link(s: Sizes, f: u8) -> bool
     ensures { λ x. ⌜ x ≡ hasLink s f ⌝ }
 {
     (f as u16) < s.k
+}
+
+// "14 also for a board entry that isn't there" (document 02, request 5)
+fn has_entry(s: Sizes, e: u8) -> bool
+    ensures { λ x. ⌜ x ≡ hasEntry s e ⌝ }
+{
+    (e as u16) < s.b
 }
 
 // "in the order 3, 13, 14": which number was wrong, of an event of which one was.
@@ -189,6 +200,25 @@ pub fn drops(s: Sizes, registers: &mut [u16], w: u8, r: u8) -> Answer
     Answer::Dropped
 }
 
+// "register r takes link [l]": what a load and a look do.
+fn register_takes(
+    s: Sizes,
+    values: &[u16],
+    registers: &mut [u16],
+    w: u8,
+    r: u8,
+    l: LinkNumber,
+) -> RecordNumber
+    requires { ⌜ SomePool s (loadsOn values registers) × (w < s .w) × (r < s .r) × (l .0 < links s) ⌝ }
+    ensures { λ a. ⌜ (a ≡ recordNumber (getD (now (values .entry)) (l .0) 0)) × (now (registers .exit) ≡ set (now (registers .entry)) (w * s .r + r) (getD (now (values .entry)) (l .0) 0)) ⌝ }
+{
+    let link = wide(l.0);
+    let a = values[link];
+    let to = register_place(s, w as u16, r as u16);
+    registers[to] = a;
+    RecordNumber(a)
+}
+
 // "load w r q f: register r takes link f of the record in q."
 pub fn loads(s: Sizes, values: &[u16], registers: &mut [u16], w: u8, r: u8, q: u8, f: u8) -> Answer
     requires { ⌜ SomePool s (loadsOn values registers) ⌝ }
@@ -205,11 +235,23 @@ pub fn loads(s: Sizes, values: &[u16], registers: &mut [u16], w: u8, r: u8, q: u
         return Answer::Refused(Refusal::HoldsNone);
     }
     let l = link_number(s, RecordNumber(base), f as u16);
-    let link = wide(l.0);
-    let a = values[link];
-    let to = register_place(s, w as u16, r as u16);
-    registers[to] = a;
-    Answer::Loaded(RecordNumber(a))
+    let a = register_takes(s, values, registers, w, r, l);
+    Answer::Loaded(a)
+}
+
+// "15 look w r e .. with the answers .. of load" (document 02, request 5)
+pub fn looks(s: Sizes, values: &[u16], registers: &mut [u16], w: u8, r: u8, e: u8) -> Answer
+    requires { ⌜ SomePool s (loadsOn values registers) ⌝ }
+    ensures { λ x. ⌜ Answers s (Event.Look w r e) (loadsOn (values .entry) (registers .entry)) x (loadsOn (values .entry) (registers .exit)) ⌝ }
+{
+    let worker = has_worker(s, w);
+    let there = has_register(s, r);
+    if !(worker & there & has_entry(s, e)) {
+        return Answer::Refused(wrong_number(worker, there));
+    }
+    let l = board_number(s, e as u16);
+    let a = register_takes(s, values, registers, w, r, l);
+    Answer::Loaded(a)
 }
 
 // "if the link's changed mark is off, (link, its value) is added to w's log and the mark goes on". There is room for it (`no-log-is-full` of
@@ -255,7 +297,38 @@ fn snooped(held: &mut [u16], snoops: &[u16], w: u8, a: RecordNumber)
     set_mark(held, place, true);
 }
 
-// "store w q f r: .. the link takes what r holds (none is allowed)". "A store of an equal value is logged like any other."
+// ".. the link takes what r holds (none is allowed)". "A store of an equal value is logged like any other.": what a store and a post do, and the value overwritten.
+// A sound pool has room to log it.
+fn link_takes(
+    s: Sizes,
+    held: &mut [u16],
+    values: &mut [u16],
+    changed: &mut [u16],
+    registers: &[u16],
+    snoops: &[u16],
+    logs: &mut [u16],
+    lengths: &mut [u16],
+    w: u8,
+    l: LinkNumber,
+    r: u8,
+) -> RecordNumber
+    requires { ⌜ SomePool s (storesOn held values changed registers snoops logs lengths) × (w < s .w) × (r < s .r) × (l .0 < links s) ⌝ }
+    ensures { λ old. ⌜ (old ≡ recordNumber (getD (now (values .entry)) (l .0) 0))
+        × ((t : Tables) → storesOn (held .exit) (values .exit) (changed .exit) (registers .entry) (snoops .entry) (logs .exit) (lengths .exit) t
+        ≡ linkTaken s w l r (storesOn (held .entry) (values .entry) (changed .entry) (registers .entry) (snoops .entry) (logs .entry) (lengths .entry) t)) ⌝ }
+{
+    let link = wide(l.0);
+    let old = values[link];
+    let from = register_place(s, w as u16, r as u16);
+    let new = registers[from];
+    let marked = is_on(changed, link);
+    logged(s, changed, logs, lengths, w, l, RecordNumber(old), marked);
+    values[link] = new;
+    snooped(held, snoops, w, RecordNumber(new));
+    RecordNumber(old)
+}
+
+// "store w q f r": the link is link f of the record in q.
 pub fn stores(
     s: Sizes,
     held: &mut [u16],
@@ -287,13 +360,60 @@ pub fn stores(
         return Answer::Refused(Refusal::HoldsNone);
     }
     let l = link_number(s, RecordNumber(base), f as u16);
-    let link = wide(l.0);
-    let old = values[link];
-    let from = register_place(s, w as u16, r as u16);
-    let new = registers[from];
-    let marked = is_on(changed, link);
-    logged(s, changed, logs, lengths, w, l, RecordNumber(old), marked);
-    values[link] = new;
-    snooped(held, snoops, w, RecordNumber(new));
-    Answer::Stored(RecordNumber(old))
+    let old = link_takes(
+        s,
+        held,
+        values,
+        changed,
+        registers,
+        snoops,
+        logs,
+        lengths,
+        w,
+        l,
+        r,
+    );
+    Answer::Stored(old)
+}
+
+// "16 post w e r .., with the answers and the barrier of .. store" (document 02, request 5)
+pub fn posts(
+    s: Sizes,
+    held: &mut [u16],
+    values: &mut [u16],
+    changed: &mut [u16],
+    registers: &[u16],
+    snoops: &[u16],
+    logs: &mut [u16],
+    lengths: &mut [u16],
+    w: u8,
+    e: u8,
+    r: u8,
+) -> Answer
+    requires { ⌜ SomePool s (storesOn held values changed registers snoops logs lengths) ⌝ }
+    ensures { λ x. ⌜ Answers s (Event.Post w e r)
+        (storesOn (held .entry) (values .entry) (changed .entry) (registers .entry) (snoops .entry) (logs .entry) (lengths .entry))
+        x
+        (storesOn (held .exit) (values .exit) (changed .exit) (registers .entry) (snoops .entry) (logs .exit) (lengths .exit)) ⌝ }
+{
+    let worker = has_worker(s, w);
+    let there = has_register(s, r);
+    if !(worker & there & has_entry(s, e)) {
+        return Answer::Refused(wrong_number(worker, there));
+    }
+    let l = board_number(s, e as u16);
+    let old = link_takes(
+        s,
+        held,
+        values,
+        changed,
+        registers,
+        snoops,
+        logs,
+        lengths,
+        w,
+        l,
+        r,
+    );
+    Answer::Stored(old)
 }

@@ -8,14 +8,14 @@ use mathlib.Core.Bool.{cond}
 use lib.Dec.{eqb}
 use Rattle.rules.specs.declared.Sizes.{Sizes}
 use Rattle.rules.specs.declared.Event.{Event}
-use Rattle.rules.specs.declared.Event.the-variants.{Make, Move, Drop, Load, Store, Collect}
+use Rattle.rules.specs.declared.Event.the-variants.{Make, Move, Drop, Load, Store, Look, Post, Collect}
 use Rattle.rules.specs.declared.Collector.{Collector}
 use Rattle.rules.specs.Reply.{number, value}
 use Rattle.tables.specs.Tables.{Tables}
 use Rattle.tables.specs.Event.{Called}
 
-abbrev pub sizesOf : (n k w r : ℕ) → Sizes
-sizesOf n k w r = record { n = n; k = k; w = w; r = r }
+abbrev pub sizesOf : (n k w r b : ℕ) → Sizes
+sizesOf n k w r b = record { n = n; k = k; w = w; r = r; b = b }
 
 abbrev pub collectorOf : (phase position closed : ℕ) → Collector
 collectorOf phase position closed = record { phase = phase; position = position; closed = closed }
@@ -28,7 +28,9 @@ eventOf tag a b c d =
     (cond (eqb tag 0x12) (Drop a b)
     (cond (eqb tag 0x13) (Load a b c d)
     (cond (eqb tag 0x14) (Store a b c d)
-    Collect))))
+    (cond (eqb tag 0x15) (Look a b c)
+    (cond (eqb tag 0x16) (Post a b c)
+    Collect))))))
 
 -- the number and the value of the answer, the collector's record, and every table entry
 pub record Numbers : Type 0 where

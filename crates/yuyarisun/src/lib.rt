@@ -1,7 +1,7 @@
 // The library for C and Rust: the public calls, each `#[no_mangle] pub extern "C"` under a name that begins with `yuyarisun_`. A slice is a pointer and then a length;
-// tables must not overlap. The sizes are n, k, w and r. A call on a pool answers the number of "Numbers a call may answer"; its value is put into `value`, 0 where it
+// tables must not overlap. The sizes are n, k, w, r and b. A call on a pool answers the number of "Numbers a call may answer"; its value is put into `value`, 0 where it
 // refuses. The header is include/yuyarisun.h.
-//     yuyarisun_make, _move, _drop, _load, _store, _collect     one event of each kind: `pool::event`
+//     yuyarisun_make, _move, _drop, _load, _store, _look, _post, _collect     one event of each kind: `pool::event`
 //     yuyarisun_fresh, _sound, _free_records                    the calls of `fresh`, and `pool::sound`
 //     yuyarisun_events, _trace                                  many events at once; a whole trace
 //     yuyarisun_join                                            parts of a trace, joined
@@ -48,6 +48,7 @@ fn one_event(
     k: u16,
     w: u16,
     r: u16,
+    b: u16,
     used: &mut [u16],
     counts: &mut [u16],
     held: &mut [u16],
@@ -66,10 +67,10 @@ fn one_event(
     value: &mut u16,
     e: Event,
 ) -> u16
-    ensures { λ x. ⌜ numbers (called (sizesOf n k w r) (lent (used .entry) (counts .entry) (held .entry) (candidates .entry) (makers .entry) (values .entry) (changed .entry) (registers .entry) (snoops .entry) (logs .entry) (history .entry) (lengths .entry)) (collectorOf (now (phase .entry)) (now (position .entry)) (now (closed .entry))) e)
+    ensures { λ x. ⌜ numbers (called (sizesOf n k w r b) (lent (used .entry) (counts .entry) (held .entry) (candidates .entry) (makers .entry) (values .entry) (changed .entry) (registers .entry) (snoops .entry) (logs .entry) (history .entry) (lengths .entry)) (collectorOf (now (phase .entry)) (now (position .entry)) (now (closed .entry))) e)
         ≡ record { number = x; value = now (value .exit); phase = now (phase .exit); position = now (position .exit); closed = now (closed .exit); tables = lent (used .exit) (counts .exit) (held .exit) (candidates .exit) (makers .exit) (values .exit) (changed .exit) (registers .exit) (snoops .exit) (logs .exit) (history .exit) (lengths .exit) } ⌝ }
 {
-    let s = Sizes { n, k, w, r };
+    let s = Sizes { n, k, w, r, b };
     let c = Collector {
         phase: *phase,
         position: *position,
@@ -108,6 +109,7 @@ pub extern "C" fn yuyarisun_make(
     k: u16,
     w: u16,
     r: u16,
+    b: u16,
     used: &mut [u16],
     counts: &mut [u16],
     held: &mut [u16],
@@ -127,7 +129,7 @@ pub extern "C" fn yuyarisun_make(
     worker: u8,
     register: u8,
 ) -> u16
-    ensures { λ x. ⌜ numbers (called (sizesOf n k w r) (lent (used .entry) (counts .entry) (held .entry) (candidates .entry) (makers .entry) (values .entry) (changed .entry) (registers .entry) (snoops .entry) (logs .entry) (history .entry) (lengths .entry)) (collectorOf (now (phase .entry)) (now (position .entry)) (now (closed .entry))) (Event.Make worker register))
+    ensures { λ x. ⌜ numbers (called (sizesOf n k w r b) (lent (used .entry) (counts .entry) (held .entry) (candidates .entry) (makers .entry) (values .entry) (changed .entry) (registers .entry) (snoops .entry) (logs .entry) (history .entry) (lengths .entry)) (collectorOf (now (phase .entry)) (now (position .entry)) (now (closed .entry))) (Event.Make worker register))
         ≡ record { number = x; value = now (value .exit); phase = now (phase .exit); position = now (position .exit); closed = now (closed .exit); tables = lent (used .exit) (counts .exit) (held .exit) (candidates .exit) (makers .exit) (values .exit) (changed .exit) (registers .exit) (snoops .exit) (logs .exit) (history .exit) (lengths .exit) } ⌝ }
 {
     one_event(
@@ -135,6 +137,7 @@ pub extern "C" fn yuyarisun_make(
         k,
         w,
         r,
+        b,
         used,
         counts,
         held,
@@ -165,6 +168,7 @@ pub extern "C" fn yuyarisun_move(
     k: u16,
     w: u16,
     r: u16,
+    b: u16,
     used: &mut [u16],
     counts: &mut [u16],
     held: &mut [u16],
@@ -185,7 +189,7 @@ pub extern "C" fn yuyarisun_move(
     register: u8,
     from: u8,
 ) -> u16
-    ensures { λ x. ⌜ numbers (called (sizesOf n k w r) (lent (used .entry) (counts .entry) (held .entry) (candidates .entry) (makers .entry) (values .entry) (changed .entry) (registers .entry) (snoops .entry) (logs .entry) (history .entry) (lengths .entry)) (collectorOf (now (phase .entry)) (now (position .entry)) (now (closed .entry))) (Event.Move worker register from))
+    ensures { λ x. ⌜ numbers (called (sizesOf n k w r b) (lent (used .entry) (counts .entry) (held .entry) (candidates .entry) (makers .entry) (values .entry) (changed .entry) (registers .entry) (snoops .entry) (logs .entry) (history .entry) (lengths .entry)) (collectorOf (now (phase .entry)) (now (position .entry)) (now (closed .entry))) (Event.Move worker register from))
         ≡ record { number = x; value = now (value .exit); phase = now (phase .exit); position = now (position .exit); closed = now (closed .exit); tables = lent (used .exit) (counts .exit) (held .exit) (candidates .exit) (makers .exit) (values .exit) (changed .exit) (registers .exit) (snoops .exit) (logs .exit) (history .exit) (lengths .exit) } ⌝ }
 {
     one_event(
@@ -193,6 +197,7 @@ pub extern "C" fn yuyarisun_move(
         k,
         w,
         r,
+        b,
         used,
         counts,
         held,
@@ -224,6 +229,7 @@ pub extern "C" fn yuyarisun_drop(
     k: u16,
     w: u16,
     r: u16,
+    b: u16,
     used: &mut [u16],
     counts: &mut [u16],
     held: &mut [u16],
@@ -243,7 +249,7 @@ pub extern "C" fn yuyarisun_drop(
     worker: u8,
     register: u8,
 ) -> u16
-    ensures { λ x. ⌜ numbers (called (sizesOf n k w r) (lent (used .entry) (counts .entry) (held .entry) (candidates .entry) (makers .entry) (values .entry) (changed .entry) (registers .entry) (snoops .entry) (logs .entry) (history .entry) (lengths .entry)) (collectorOf (now (phase .entry)) (now (position .entry)) (now (closed .entry))) (Event.Drop worker register))
+    ensures { λ x. ⌜ numbers (called (sizesOf n k w r b) (lent (used .entry) (counts .entry) (held .entry) (candidates .entry) (makers .entry) (values .entry) (changed .entry) (registers .entry) (snoops .entry) (logs .entry) (history .entry) (lengths .entry)) (collectorOf (now (phase .entry)) (now (position .entry)) (now (closed .entry))) (Event.Drop worker register))
         ≡ record { number = x; value = now (value .exit); phase = now (phase .exit); position = now (position .exit); closed = now (closed .exit); tables = lent (used .exit) (counts .exit) (held .exit) (candidates .exit) (makers .exit) (values .exit) (changed .exit) (registers .exit) (snoops .exit) (logs .exit) (history .exit) (lengths .exit) } ⌝ }
 {
     one_event(
@@ -251,6 +257,7 @@ pub extern "C" fn yuyarisun_drop(
         k,
         w,
         r,
+        b,
         used,
         counts,
         held,
@@ -281,6 +288,7 @@ pub extern "C" fn yuyarisun_load(
     k: u16,
     w: u16,
     r: u16,
+    b: u16,
     used: &mut [u16],
     counts: &mut [u16],
     held: &mut [u16],
@@ -302,7 +310,7 @@ pub extern "C" fn yuyarisun_load(
     through: u8,
     link: u8,
 ) -> u16
-    ensures { λ x. ⌜ numbers (called (sizesOf n k w r) (lent (used .entry) (counts .entry) (held .entry) (candidates .entry) (makers .entry) (values .entry) (changed .entry) (registers .entry) (snoops .entry) (logs .entry) (history .entry) (lengths .entry)) (collectorOf (now (phase .entry)) (now (position .entry)) (now (closed .entry))) (Event.Load worker register through link))
+    ensures { λ x. ⌜ numbers (called (sizesOf n k w r b) (lent (used .entry) (counts .entry) (held .entry) (candidates .entry) (makers .entry) (values .entry) (changed .entry) (registers .entry) (snoops .entry) (logs .entry) (history .entry) (lengths .entry)) (collectorOf (now (phase .entry)) (now (position .entry)) (now (closed .entry))) (Event.Load worker register through link))
         ≡ record { number = x; value = now (value .exit); phase = now (phase .exit); position = now (position .exit); closed = now (closed .exit); tables = lent (used .exit) (counts .exit) (held .exit) (candidates .exit) (makers .exit) (values .exit) (changed .exit) (registers .exit) (snoops .exit) (logs .exit) (history .exit) (lengths .exit) } ⌝ }
 {
     one_event(
@@ -310,6 +318,7 @@ pub extern "C" fn yuyarisun_load(
         k,
         w,
         r,
+        b,
         used,
         counts,
         held,
@@ -342,6 +351,7 @@ pub extern "C" fn yuyarisun_store(
     k: u16,
     w: u16,
     r: u16,
+    b: u16,
     used: &mut [u16],
     counts: &mut [u16],
     held: &mut [u16],
@@ -363,7 +373,7 @@ pub extern "C" fn yuyarisun_store(
     link: u8,
     register: u8,
 ) -> u16
-    ensures { λ x. ⌜ numbers (called (sizesOf n k w r) (lent (used .entry) (counts .entry) (held .entry) (candidates .entry) (makers .entry) (values .entry) (changed .entry) (registers .entry) (snoops .entry) (logs .entry) (history .entry) (lengths .entry)) (collectorOf (now (phase .entry)) (now (position .entry)) (now (closed .entry))) (Event.Store worker through link register))
+    ensures { λ x. ⌜ numbers (called (sizesOf n k w r b) (lent (used .entry) (counts .entry) (held .entry) (candidates .entry) (makers .entry) (values .entry) (changed .entry) (registers .entry) (snoops .entry) (logs .entry) (history .entry) (lengths .entry)) (collectorOf (now (phase .entry)) (now (position .entry)) (now (closed .entry))) (Event.Store worker through link register))
         ≡ record { number = x; value = now (value .exit); phase = now (phase .exit); position = now (position .exit); closed = now (closed .exit); tables = lent (used .exit) (counts .exit) (held .exit) (candidates .exit) (makers .exit) (values .exit) (changed .exit) (registers .exit) (snoops .exit) (logs .exit) (history .exit) (lengths .exit) } ⌝ }
 {
     one_event(
@@ -371,6 +381,7 @@ pub extern "C" fn yuyarisun_store(
         k,
         w,
         r,
+        b,
         used,
         counts,
         held,
@@ -396,6 +407,128 @@ pub extern "C" fn yuyarisun_store(
     )
 }
 
+// look: the register takes what the board entry holds, which is the value.
+#[no_mangle]
+pub extern "C" fn yuyarisun_look(
+    n: u16,
+    k: u16,
+    w: u16,
+    r: u16,
+    b: u16,
+    used: &mut [u16],
+    counts: &mut [u16],
+    held: &mut [u16],
+    candidates: &mut [u16],
+    makers: &mut [u16],
+    values: &mut [u16],
+    changed: &mut [u16],
+    registers: &mut [u16],
+    snoops: &mut [u16],
+    logs: &mut [u16],
+    history: &mut [u16],
+    lengths: &mut [u16],
+    phase: &mut u16,
+    position: &mut u16,
+    closed: &mut u16,
+    value: &mut u16,
+    worker: u8,
+    register: u8,
+    entry: u8,
+) -> u16
+    ensures { λ x. ⌜ numbers (called (sizesOf n k w r b) (lent (used .entry) (counts .entry) (held .entry) (candidates .entry) (makers .entry) (values .entry) (changed .entry) (registers .entry) (snoops .entry) (logs .entry) (history .entry) (lengths .entry)) (collectorOf (now (phase .entry)) (now (position .entry)) (now (closed .entry))) (Event.Look worker register entry))
+        ≡ record { number = x; value = now (value .exit); phase = now (phase .exit); position = now (position .exit); closed = now (closed .exit); tables = lent (used .exit) (counts .exit) (held .exit) (candidates .exit) (makers .exit) (values .exit) (changed .exit) (registers .exit) (snoops .exit) (logs .exit) (history .exit) (lengths .exit) } ⌝ }
+{
+    one_event(
+        n,
+        k,
+        w,
+        r,
+        b,
+        used,
+        counts,
+        held,
+        candidates,
+        makers,
+        values,
+        changed,
+        registers,
+        snoops,
+        logs,
+        history,
+        lengths,
+        phase,
+        position,
+        closed,
+        value,
+        Event::Look {
+            w: worker,
+            r: register,
+            e: entry,
+        },
+    )
+}
+
+// post: the board entry takes what the register holds. The value is the one overwritten.
+#[no_mangle]
+pub extern "C" fn yuyarisun_post(
+    n: u16,
+    k: u16,
+    w: u16,
+    r: u16,
+    b: u16,
+    used: &mut [u16],
+    counts: &mut [u16],
+    held: &mut [u16],
+    candidates: &mut [u16],
+    makers: &mut [u16],
+    values: &mut [u16],
+    changed: &mut [u16],
+    registers: &mut [u16],
+    snoops: &mut [u16],
+    logs: &mut [u16],
+    history: &mut [u16],
+    lengths: &mut [u16],
+    phase: &mut u16,
+    position: &mut u16,
+    closed: &mut u16,
+    value: &mut u16,
+    worker: u8,
+    entry: u8,
+    register: u8,
+) -> u16
+    ensures { λ x. ⌜ numbers (called (sizesOf n k w r b) (lent (used .entry) (counts .entry) (held .entry) (candidates .entry) (makers .entry) (values .entry) (changed .entry) (registers .entry) (snoops .entry) (logs .entry) (history .entry) (lengths .entry)) (collectorOf (now (phase .entry)) (now (position .entry)) (now (closed .entry))) (Event.Post worker entry register))
+        ≡ record { number = x; value = now (value .exit); phase = now (phase .exit); position = now (position .exit); closed = now (closed .exit); tables = lent (used .exit) (counts .exit) (held .exit) (candidates .exit) (makers .exit) (values .exit) (changed .exit) (registers .exit) (snoops .exit) (logs .exit) (history .exit) (lengths .exit) } ⌝ }
+{
+    one_event(
+        n,
+        k,
+        w,
+        r,
+        b,
+        used,
+        counts,
+        held,
+        candidates,
+        makers,
+        values,
+        changed,
+        registers,
+        snoops,
+        logs,
+        history,
+        lengths,
+        phase,
+        position,
+        closed,
+        value,
+        Event::Post {
+            w: worker,
+            e: entry,
+            r: register,
+        },
+    )
+}
+
 // collect: one collector step. The value is the record freed, otherwise 0.
 #[no_mangle]
 pub extern "C" fn yuyarisun_collect(
@@ -403,6 +536,7 @@ pub extern "C" fn yuyarisun_collect(
     k: u16,
     w: u16,
     r: u16,
+    b: u16,
     used: &mut [u16],
     counts: &mut [u16],
     held: &mut [u16],
@@ -420,7 +554,7 @@ pub extern "C" fn yuyarisun_collect(
     closed: &mut u16,
     value: &mut u16,
 ) -> u16
-    ensures { λ x. ⌜ numbers (called (sizesOf n k w r) (lent (used .entry) (counts .entry) (held .entry) (candidates .entry) (makers .entry) (values .entry) (changed .entry) (registers .entry) (snoops .entry) (logs .entry) (history .entry) (lengths .entry)) (collectorOf (now (phase .entry)) (now (position .entry)) (now (closed .entry))) Event.Collect)
+    ensures { λ x. ⌜ numbers (called (sizesOf n k w r b) (lent (used .entry) (counts .entry) (held .entry) (candidates .entry) (makers .entry) (values .entry) (changed .entry) (registers .entry) (snoops .entry) (logs .entry) (history .entry) (lengths .entry)) (collectorOf (now (phase .entry)) (now (position .entry)) (now (closed .entry))) Event.Collect)
         ≡ record { number = x; value = now (value .exit); phase = now (phase .exit); position = now (position .exit); closed = now (closed .exit); tables = lent (used .exit) (counts .exit) (held .exit) (candidates .exit) (makers .exit) (values .exit) (changed .exit) (registers .exit) (snoops .exit) (logs .exit) (history .exit) (lengths .exit) } ⌝ }
 {
     one_event(
@@ -428,6 +562,7 @@ pub extern "C" fn yuyarisun_collect(
         k,
         w,
         r,
+        b,
         used,
         counts,
         held,
@@ -455,6 +590,7 @@ pub extern "C" fn yuyarisun_fresh(
     k: u16,
     w: u16,
     r: u16,
+    b: u16,
     used: &mut [u16],
     counts: &mut [u16],
     held: &mut [u16],
@@ -471,10 +607,10 @@ pub extern "C" fn yuyarisun_fresh(
     position: &mut u16,
     closed: &mut u16,
 ) -> u16
-    ensures { λ x. ⌜ numbers (madeFresh (sizesOf n k w r) (lent (used .entry) (counts .entry) (held .entry) (candidates .entry) (makers .entry) (values .entry) (changed .entry) (registers .entry) (snoops .entry) (logs .entry) (history .entry) (lengths .entry)) (collectorOf (now (phase .entry)) (now (position .entry)) (now (closed .entry))))
+    ensures { λ x. ⌜ numbers (madeFresh (sizesOf n k w r b) (lent (used .entry) (counts .entry) (held .entry) (candidates .entry) (makers .entry) (values .entry) (changed .entry) (registers .entry) (snoops .entry) (logs .entry) (history .entry) (lengths .entry)) (collectorOf (now (phase .entry)) (now (position .entry)) (now (closed .entry))))
         ≡ record { number = x; value = 0; phase = now (phase .exit); position = now (position .exit); closed = now (closed .exit); tables = lent (used .exit) (counts .exit) (held .exit) (candidates .exit) (makers .exit) (values .exit) (changed .exit) (registers .exit) (snoops .exit) (logs .exit) (history .exit) (lengths .exit) } ⌝ }
 {
-    let s = Sizes { n, k, w, r };
+    let s = Sizes { n, k, w, r, b };
     let c = Collector {
         phase: *phase,
         position: *position,
@@ -511,6 +647,7 @@ pub extern "C" fn yuyarisun_sound(
     k: u16,
     w: u16,
     r: u16,
+    b: u16,
     used: &[u16],
     counts: &[u16],
     held: &[u16],
@@ -527,10 +664,10 @@ pub extern "C" fn yuyarisun_sound(
     position: u16,
     closed: u16,
 ) -> bool
-    ensures { λ x. ⌜ x ≡ (fits (sizesOf n k w r) (lent (used .entry) (counts .entry) (held .entry) (candidates .entry) (makers .entry) (values .entry) (changed .entry) (registers .entry) (snoops .entry) (logs .entry) (history .entry) (lengths .entry)) && isSound (sizesOf n k w r) (lent (used .entry) (counts .entry) (held .entry) (candidates .entry) (makers .entry) (values .entry) (changed .entry) (registers .entry) (snoops .entry) (logs .entry) (history .entry) (lengths .entry)) (collectorOf phase position closed)) ⌝ }
+    ensures { λ x. ⌜ x ≡ (fits (sizesOf n k w r b) (lent (used .entry) (counts .entry) (held .entry) (candidates .entry) (makers .entry) (values .entry) (changed .entry) (registers .entry) (snoops .entry) (logs .entry) (history .entry) (lengths .entry)) && isSound (sizesOf n k w r b) (lent (used .entry) (counts .entry) (held .entry) (candidates .entry) (makers .entry) (values .entry) (changed .entry) (registers .entry) (snoops .entry) (logs .entry) (history .entry) (lengths .entry)) (collectorOf phase position closed)) ⌝ }
 {
     sound(
-        Sizes { n, k, w, r },
+        Sizes { n, k, w, r, b },
         used,
         counts,
         held,
@@ -579,6 +716,8 @@ fn event_of(tag: u8, a: u8, b: u8, c: u8, d: u8) -> Event
             f: c,
             r: d,
         },
+        0x15 => Event::Look { w: a, r: b, e: c },
+        0x16 => Event::Post { w: a, e: b, r: c },
         _ => Event::Collect,
     }
 }
@@ -590,6 +729,7 @@ pub extern "C" fn yuyarisun_inner_event(
     k: u16,
     w: u16,
     r: u16,
+    b: u16,
     used: &mut [u16],
     counts: &mut [u16],
     held: &mut [u16],
@@ -607,16 +747,16 @@ pub extern "C" fn yuyarisun_inner_event(
     closed: &mut u16,
     value: &mut u16,
     tag: u8,
-    a: u8,
-    b: u8,
-    c: u8,
-    d: u8,
+    first: u8,
+    second: u8,
+    third: u8,
+    fourth: u8,
 ) -> u16
-    requires { ⌜ Known (sizesOf n k w r) (lent used counts held candidates makers values changed registers snoops logs history lengths) (collectorOf (now phase) (now position) (now closed)) ⌝ }
-    ensures { λ x. ⌜ numbers (eventOn (sizesOf n k w r) (lent (used .entry) (counts .entry) (held .entry) (candidates .entry) (makers .entry) (values .entry) (changed .entry) (registers .entry) (snoops .entry) (logs .entry) (history .entry) (lengths .entry)) (collectorOf (now (phase .entry)) (now (position .entry)) (now (closed .entry))) (eventOf tag a b c d))
+    requires { ⌜ Known (sizesOf n k w r b) (lent used counts held candidates makers values changed registers snoops logs history lengths) (collectorOf (now phase) (now position) (now closed)) ⌝ }
+    ensures { λ x. ⌜ numbers (eventOn (sizesOf n k w r b) (lent (used .entry) (counts .entry) (held .entry) (candidates .entry) (makers .entry) (values .entry) (changed .entry) (registers .entry) (snoops .entry) (logs .entry) (history .entry) (lengths .entry)) (collectorOf (now (phase .entry)) (now (position .entry)) (now (closed .entry))) (eventOf tag first second third fourth))
         ≡ record { number = x; value = now (value .exit); phase = now (phase .exit); position = now (position .exit); closed = now (closed .exit); tables = lent (used .exit) (counts .exit) (held .exit) (candidates .exit) (makers .exit) (values .exit) (changed .exit) (registers .exit) (snoops .exit) (logs .exit) (history .exit) (lengths .exit) } ⌝ }
 {
-    let s = Sizes { n, k, w, r };
+    let s = Sizes { n, k, w, r, b };
     let before = Collector {
         phase: *phase,
         position: *position,
@@ -637,7 +777,7 @@ pub extern "C" fn yuyarisun_inner_event(
         history,
         lengths,
         before,
-        event_of(tag, a, b, c, d),
+        event_of(tag, first, second, third, fourth),
     );
     let after = x.collector;
     *phase = after.phase;
@@ -677,6 +817,7 @@ pub extern "C" fn yuyarisun_events(
     k: u16,
     w: u16,
     r: u16,
+    b: u16,
     used: &mut [u16],
     counts: &mut [u16],
     held: &mut [u16],
@@ -698,10 +839,10 @@ pub extern "C" fn yuyarisun_events(
     events: &mut usize,
     place: &mut usize,
 ) -> u16
-    ensures { λ x. ⌜ manyNumbers (manyOn (sizesOf n k w r) (lent (used .entry) (counts .entry) (held .entry) (candidates .entry) (makers .entry) (values .entry) (changed .entry) (registers .entry) (snoops .entry) (logs .entry) (history .entry) (lengths .entry)) (collectorOf (now (phase .entry)) (now (position .entry)) (now (closed .entry))) (now (bytes .entry)) (now (step .entry)) (now (answers .entry)))
+    ensures { λ x. ⌜ manyNumbers (manyOn (sizesOf n k w r b) (lent (used .entry) (counts .entry) (held .entry) (candidates .entry) (makers .entry) (values .entry) (changed .entry) (registers .entry) (snoops .entry) (logs .entry) (history .entry) (lengths .entry)) (collectorOf (now (phase .entry)) (now (position .entry)) (now (closed .entry))) (now (bytes .entry)) (now (step .entry)) (now (answers .entry)))
         ≡ record { number = x; place = now (place .exit); step = now (step .exit); events = now (events .exit); phase = now (phase .exit); position = now (position .exit); closed = now (closed .exit); tables = lent (used .exit) (counts .exit) (held .exit) (candidates .exit) (makers .exit) (values .exit) (changed .exit) (registers .exit) (snoops .exit) (logs .exit) (history .exit) (lengths .exit); answers = now (answers .exit) } ⌝ }
 {
-    let s = Sizes { n, k, w, r };
+    let s = Sizes { n, k, w, r, b };
     let before = Collector {
         phase: *phase,
         position: *position,

@@ -6,7 +6,7 @@
 use yuyarisun::{Pool, Refusal, Sizes};
 
 fn main() -> Result<(), Refusal> {
-    let sizes = Sizes { n: 8, k: 2, w: 1, r: 3 };
+    let sizes = Sizes { n: 8, k: 2, w: 1, r: 3, b: 0 };
     let mut pool = Pool::new(sizes)?;
 
     // Register 0 of worker 0 holds the head. Each new record, in register 1, leads to it by link 0

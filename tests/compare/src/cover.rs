@@ -1,5 +1,5 @@
-//! What a set of traces covered: how they ended, what their makes came upon, what was wrong at once with
-//! an event, how they were handed over, and where in a field a read ended.
+//! What a set of traces covered: how they ended, how their sizes fields say B, what their makes came upon,
+//! what was wrong at once with an event, how they were handed over, and where in a field a read ended.
 
 use std::fmt;
 use std::str;
@@ -7,7 +7,7 @@ use std::str;
 use second::event::{happen, Event};
 use second::pool::Pool;
 use second::replay::Ending;
-use second::tally::{makes, wrongs, MAKES, WRONGS};
+use second::tally::{makes, sizes_fields, wrongs, MAKES, SIZES_FIELDS, WRONGS};
 use second::trace::{well_formed, Field, Kind, Reader};
 
 use crate::hand::{pieces, Way, ROOM};
@@ -18,24 +18,37 @@ const ANSWERS: [usize; 6] = [0, 3, 4, 5, 13, 14];
 /// The numbers that a trace can be refused with.
 const REFUSALS: [usize; 7] = [1, 7, 8, 9, 10, 11, 12];
 
-/// The fields that a read can end in after the first byte of the trace.
-const KINDS: [Kind; 7] =
-    [Kind::Make, Kind::Move, Kind::Drop, Kind::Load, Kind::Store, Kind::Collect, Kind::End];
+/// The fields that a read can end in, each with its length. The sizes begin the trace, so that the room
+/// for input never ends in them, and a piece never before their first byte.
+const FIELDS: [(Kind, usize); 11] = [
+    (Kind::Sizes, 8),
+    (Kind::Sizes, 10),
+    (Kind::Make, 6),
+    (Kind::Move, 7),
+    (Kind::Drop, 6),
+    (Kind::Load, 8),
+    (Kind::Store, 8),
+    (Kind::Look, 7),
+    (Kind::Post, 7),
+    (Kind::Collect, 4),
+    (Kind::End, 4),
+];
 
 /// The bytes of the longest field.
-const LONGEST: usize = 11;
+const LONGEST: usize = 13;
 
 /// A trace of so many events is a long one.
 const LONG: usize = 100_000;
 
 /// How often a read ended after so many bytes of a field of each kind; 0 is before its first.
-type Ends = [[u64; LONGEST]; KINDS.len()];
+type Ends = [[u64; LONGEST]; FIELDS.len()];
 
 #[derive(Default)]
 pub struct Cover {
     whole: u64,
     refused: [u64; 15],
     answers: [u64; 15],
+    sizes_fields: [u64; SIZES_FIELDS.len()],
     makes: [u64; MAKES.len()],
     wrongs: [u64; WRONGS.len()],
     by_pipe: u64,
@@ -91,7 +104,10 @@ impl Cover {
         let mut pool = None;
         while let Ok(Some(field)) = reader.next_field() {
             match (field, &mut pool) {
-                (Field::Sizes(sizes), _) => pool = Some(Pool::fresh(sizes)),
+                (Field::Sizes { sizes, carries_b }, _) => {
+                    add(&mut self.sizes_fields, &sizes_fields(sizes, carries_b).map(u64::from));
+                    pool = Some(Pool::fresh(sizes));
+                }
                 (Field::Event { event, .. }, Some(pool)) => {
                     add(&mut self.wrongs, &wrongs(pool, event).map(u64::from));
                     let upon = matches!(event, Event::Make { .. }).then(|| makes(pool));
@@ -110,6 +126,7 @@ impl Cover {
         self.whole += other.whole;
         add(&mut self.refused, &other.refused);
         add(&mut self.answers, &other.answers);
+        add(&mut self.sizes_fields, &other.sizes_fields);
         add(&mut self.makes, &other.makes);
         add(&mut self.wrongs, &other.wrongs);
         self.by_pipe += other.by_pipe;
@@ -139,7 +156,9 @@ impl Cover {
         for number in ANSWERS {
             ask(format!("an event answered {number}"), self.answers[number]);
         }
-        for (what, times) in MAKES.into_iter().zip(self.makes).chain(WRONGS.into_iter().zip(self.wrongs)) {
+        let sizes_fields = SIZES_FIELDS.into_iter().zip(self.sizes_fields);
+        let upon = MAKES.into_iter().zip(self.makes).chain(WRONGS.into_iter().zip(self.wrongs));
+        for (what, times) in sizes_fields.chain(upon) {
             ask(what.into(), times);
         }
         let ways = [self.by_pipe, self.by_file, self.by_pieces];
@@ -148,9 +167,15 @@ impl Cover {
         }
         ask(format!("a trace of {LONG} events or more"), self.long);
         for (ends, what) in [(&self.room_ends, "the room"), (&self.piece_ends, "a piece")] {
-            for (row, kind) in ends.iter().zip(KINDS) {
-                for (bytes, times) in row.iter().enumerate().take(3 + kind.length()) {
-                    ask(format!("{what} ends after {bytes} bytes of a field {}", kind.name()), *times);
+            for (row, (kind, length)) in ends.iter().zip(FIELDS) {
+                let bytes = match (kind, what) {
+                    (Kind::Sizes, "the room") => 0..0,
+                    (Kind::Sizes, _) => 1..3 + length,
+                    _ => 0..3 + length,
+                };
+                for bytes in bytes {
+                    let field = format!("a field {} of length {length}", kind.name());
+                    ask(format!("{what} ends after {bytes} bytes of {field}"), row[bytes]);
                 }
             }
         }
@@ -173,20 +198,21 @@ fn answers(printed: &[u8]) -> impl Iterator<Item = usize> + '_ {
     })
 }
 
-/// The fields of a trace, up to the first bytes that are none: where each begins, and its kind.
-fn fields(trace: &[u8]) -> impl Iterator<Item = (usize, Kind)> + '_ {
+/// The fields of a trace, up to the first bytes that are none: where each begins, its kind and its
+/// length.
+fn fields(trace: &[u8]) -> impl Iterator<Item = (usize, (Kind, usize))> + '_ {
     let mut offset = 0;
     std::iter::from_fn(move || {
-        let kind = well_formed(&trace[offset..])?.kind();
-        let begin = offset;
-        offset += 3 + kind.length();
-        Some((begin, kind))
+        let field = well_formed(&trace[offset..])?;
+        let (begin, bytes) = (offset, field.bytes().len());
+        offset += bytes;
+        Some((begin, (field.kind(), bytes - 3)))
     })
 }
 
-fn count(ends: &mut Ends, kind: Kind, bytes: usize) {
-    for (row, of) in ends.iter_mut().zip(KINDS) {
-        row[bytes] += u64::from(of == kind);
+fn count(ends: &mut Ends, field: (Kind, usize), bytes: usize) {
+    for (row, of) in ends.iter_mut().zip(FIELDS) {
+        row[bytes] += u64::from(of == field);
     }
 }
 
@@ -194,10 +220,10 @@ fn count(ends: &mut Ends, kind: Kind, bytes: usize) {
 /// is moved to its front.
 fn count_room_ends(trace: &[u8], ends: &mut Ends) {
     let mut front = 0;
-    for (begin, kind) in fields(trace) {
+    for (begin, field) in fields(trace) {
         let end = front + ROOM;
-        if end < begin + 3 + kind.length() {
-            count(ends, kind, end - begin);
+        if end < begin + 3 + field.1 {
+            count(ends, field, end - begin);
             front = begin;
         }
     }
@@ -210,10 +236,10 @@ fn count_piece_ends(trace: &[u8], lengths: impl Iterator<Item = usize>, ends: &m
         Some(*offset)
     });
     let mut next = piece_ends.next();
-    for (begin, kind) in fields(trace) {
-        let after = begin + 3 + kind.length();
+    for (begin, field) in fields(trace) {
+        let after = begin + 3 + field.1;
         while let Some(end) = next.filter(|end| *end < after) {
-            count(ends, kind, end - begin);
+            count(ends, field, end - begin);
             next = piece_ends.next();
         }
     }
@@ -228,6 +254,10 @@ impl fmt::Display for Cover {
         };
         writeln!(out, "how often each answer number was given:{}", numbered(&ANSWERS, &self.answers))?;
         writeln!(out, "how often a trace was refused with it:{}", numbered(&REFUSALS, &self.refused))?;
+        writeln!(out, "how often a trace began with this:")?;
+        for (times, what) in self.sizes_fields.iter().zip(SIZES_FIELDS) {
+            writeln!(out, "{times:>10}  {what}")?;
+        }
         writeln!(out, "how often a make came upon this:")?;
         for (times, what) in self.makes.iter().zip(MAKES) {
             writeln!(out, "{times:>10}  {what}")?;
@@ -255,14 +285,13 @@ impl fmt::Display for Cover {
 
 fn table(out: &mut fmt::Formatter, ends: &Ends) -> fmt::Result {
     writeln!(out, "{:>8} {}", "", (0..LONGEST).map(|bytes| format!("{bytes:>8}")).collect::<String>())?;
-    for (row, kind) in ends.iter().zip(KINDS) {
-        let times = &row[..3 + kind.length()];
-        writeln!(
-            out,
-            "{:>8} {}",
-            kind.name(),
-            times.iter().map(|times| format!("{times:>8}")).collect::<String>()
-        )?;
+    for (row, (kind, length)) in ends.iter().zip(FIELDS) {
+        let name = match kind {
+            Kind::Sizes => format!("sizes {length}"),
+            _ => kind.name().into(),
+        };
+        let times = &row[..3 + length];
+        writeln!(out, "{name:>8} {}", times.iter().map(|times| format!("{times:>8}")).collect::<String>())?;
     }
     Ok(())
 }
@@ -274,9 +303,10 @@ mod tests {
     use super::*;
 
     fn made(ends: &Ends) -> Vec<(&'static str, usize, u64)> {
-        let rows = ends.iter().zip(KINDS);
-        let all = rows
-            .flat_map(|(row, kind)| (0..).zip(row).map(move |(bytes, times)| (kind.name(), bytes, *times)));
+        let rows = ends.iter().zip(FIELDS);
+        let all = rows.flat_map(|(row, (kind, _))| {
+            (0..).zip(row).map(move |(bytes, times)| (kind.name(), bytes, *times))
+        });
         all.filter(|(_, _, times)| *times > 0).collect()
     }
 
@@ -308,7 +338,7 @@ mod tests {
     #[test]
     fn what_is_wrong_at_once_is_told_apart() {
         let trace = [
-            "sizes 1 1 1 2",
+            "sizes 1 1 1 2 1",
             "move 1 0 2",    // a worker and a register
             "load 1 0 0 1",  // a worker and a link
             "store 0 2 1 0", // a register and a link
@@ -324,11 +354,17 @@ mod tests {
             "make 0 2",      // a register, and no record is free
             "make 0 1",      // no record is free
             "load 0 0 1 0",  // the register holds none
+            "look 1 0 1",    // a worker and a board entry
+            "post 0 1 2",    // a register and a board entry
+            "look 0 2 1",    // the same
+            "post 1 1 2",    // all three
+            "look 1 2 0",    // a worker and a register
+            "look 0 0 1",    // a board entry alone
             "end",
         ];
         let mut cover = Cover::default();
         cover.count_upon(&trace::text::write(&trace.join("\n")).unwrap());
-        assert_eq!(cover.wrongs, [1, 1, 2, 1, 1, 1, 1, 1]);
+        assert_eq!(cover.wrongs, [2, 1, 2, 1, 1, 2, 1, 1, 1, 1, 1]);
     }
 
     #[test]
@@ -345,6 +381,18 @@ mod tests {
         let trace = trace::text::write("sizes 1 1 1 1\nmake 0 0\ncollect\nend").unwrap();
         let mut ends = Ends::default();
         count_piece_ends(&trace, [4, 7, 3, 6, 20].into_iter(), &mut ends);
-        assert_eq!(made(&ends), [("make", 0, 1), ("make", 3, 1), ("collect", 0, 1)]);
+        assert_eq!(made(&ends), [("sizes", 4, 1), ("make", 0, 1), ("make", 3, 1), ("collect", 0, 1)]);
+    }
+
+    #[test]
+    fn the_sizes_of_both_lengths_are_told_apart() {
+        let mut cover = Cover::default();
+        for sizes in ["sizes 1 1 1 1", "sizes 1 1 1 1 0", "sizes 1 1 1 1 2", "sizes 1 1 1 1 0"] {
+            let trace = trace::text::write(&format!("{sizes}\nend")).unwrap();
+            cover.count_upon(&trace);
+            count_piece_ends(&trace, [1, 1, 100].into_iter(), &mut cover.piece_ends);
+        }
+        assert_eq!(cover.sizes_fields, [1, 2, 1]);
+        assert_eq!((&cover.piece_ends[0][..3], &cover.piece_ends[1][..3]), (&[0, 1, 1][..], &[0, 3, 3][..]));
     }
 }

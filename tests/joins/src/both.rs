@@ -96,7 +96,7 @@ fn read_again(joined: &[u8]) -> Result<(), String> {
 /// The sizes that a trace begins with.
 pub fn sizes_of(trace: &[u8]) -> Option<Sizes> {
     match well_formed(trace) {
-        Some(Field::Sizes(sizes)) => Some(sizes),
+        Some(Field::Sizes { sizes, .. }) => Some(sizes),
         _ => None,
     }
 }

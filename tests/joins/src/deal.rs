@@ -1,10 +1,10 @@
 //! A whole trace, and its events dealt out to parts.
 
 use second::event::Event;
-use second::maker::{at_the_limits, up_to};
+use second::maker::{at_the_limits, sizes_field, up_to};
 use second::pool::Sizes;
 use second::random::Random;
-use second::trace::{Field, LARGEST};
+use second::trace::{Field, LARGEST, LARGEST_OF_ALL};
 
 /// A field in bytes, and a part as its fields: the sizes, the events, the end.
 pub type Bytes = Vec<u8>;
@@ -46,13 +46,16 @@ pub struct Dealt {
     pub words: &'static str,
 }
 
-/// Sizes that document 01 has, those of `replay` and larger ones.
+/// Sizes that a pool may have, those of `replay` and larger ones, some of them without a board.
 fn any_sizes(random: &mut Random) -> Sizes {
-    let most = Sizes { n: 1024, k: 8, w: 8, r: 16 };
-    match random.below(4) {
+    let sizes = match random.below(4) {
         0 | 1 => up_to(LARGEST, random),
-        2 => up_to(most, random),
-        _ => at_the_limits(most, 80, random),
+        2 => up_to(LARGEST_OF_ALL, random),
+        _ => at_the_limits(LARGEST_OF_ALL, 80, random),
+    };
+    match random.percent(30) {
+        true => Sizes { b: 0, ..sizes },
+        false => sizes,
     }
 }
 
@@ -61,12 +64,14 @@ fn any_event(sizes: Sizes, random: &mut Random) -> Event {
     let w = if random.percent(5) { random.byte() } else { random.below(sizes.w.into()) as u8 };
     let mut number = || if random.percent(5) { random.byte() } else { random.below(3) as u8 };
     let (r, q, f) = (number(), number(), number());
-    match random.below(6) {
+    match random.below(8) {
         0 => Event::Make { w, r },
         1 => Event::Move { w, r, q },
         2 => Event::Drop { w, r },
         3 => Event::Load { w, r, q, f },
         4 => Event::Store { w, q, f, r },
+        5 => Event::Look { w, r, e: f },
+        6 => Event::Post { w, e: f, r },
         _ => Event::Collect,
     }
 }
@@ -82,8 +87,8 @@ pub fn any(events: usize, random: &mut Random) -> Dealt {
     let workers = usize::from(sizes.w);
     let count = if let Deal::ByWorker = deal { workers + 1 } else { 1 + random.below(9) };
     let (one, long) = (random.below(count), 1 + random.below(12));
-    let mut parts = vec![vec![Field::Sizes(sizes).bytes()]; count];
-    let mut trace = Field::Sizes(sizes).bytes();
+    let mut parts: Vec<Part> = (0..count).map(|_| vec![sizes_field(sizes, random).bytes()]).collect();
+    let mut trace = parts[0][0].clone();
     for i in 0..events {
         let event = any_event(sizes, random);
         let to = match deal {

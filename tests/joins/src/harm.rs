@@ -162,7 +162,7 @@ impl Harm {
             }
             Harm::OtherSizes | Harm::SizesOutOfRange => {
                 let Some(sizes) = part.first().and_then(|field| sizes_of(field)) else { return false };
-                part[0] = Field::Sizes(other_sizes(sizes, self == Harm::SizesOutOfRange, random)).bytes();
+                part[0] = Field::of_sizes(other_sizes(sizes, self == Harm::SizesOutOfRange, random)).bytes();
             }
             Harm::SizesTwice if !part.is_empty() => part.insert(any + 1, part[0].clone()),
             Harm::NoSizes if !part.is_empty() => drop(part.remove(0)),
@@ -173,10 +173,11 @@ impl Harm {
             Harm::Emptied => part.clear(),
             Harm::TagAltered if part.get(any).is_some_and(|field| !field.is_empty()) => {
                 let tag = random.byte();
-                part[any][0] = random.pick(&[0x01, 0x7F, 0x10, 0x14, 0x20, 0, tag]);
+                part[any][0] = random.pick(&[0x01, 0x7F, 0x10, 0x14, 0x15, 0x16, 0x17, 0x20, 0, tag]);
             }
             Harm::LengthAltered if part.get(any).is_some_and(|field| field.len() > 2) => {
-                let length = random.pick(&Kind::ALL).length() as u16;
+                let kind = random.pick(&Kind::ALL);
+                let length = random.pick(kind.lengths()) as u16;
                 let length = random.pick(&[length, length << 8, 0, 256 + length]);
                 part[any][1..3].copy_from_slice(&length.to_be_bytes());
             }
@@ -222,8 +223,8 @@ fn raise(field: &mut Bytes) {
 /// A part without events, of the first part's sizes.
 fn empty_part(parts: &[Part]) -> Part {
     let sizes = parts.first().and_then(|part| part.first()).and_then(|field| sizes_of(field));
-    let sizes = sizes.unwrap_or(Sizes { n: 1, k: 1, w: 1, r: 1 });
-    vec![Field::Sizes(sizes).bytes(), Field::End { count: 0 }.bytes()]
+    let sizes = sizes.unwrap_or(Sizes { n: 1, k: 1, w: 1, r: 1, b: 0 });
+    vec![Field::of_sizes(sizes).bytes(), Field::End { count: 0 }.bytes()]
 }
 
 /// An event of one part once more, at its place in another.
@@ -236,7 +237,9 @@ fn twice(parts: &mut [Part], random: &mut Random) -> bool {
     let without = parts.iter().position(|part| part.len() > 1 && !part.contains(&again));
     let Some(part) = without.map(|which| &mut parts[which]) else { return false };
     let steps = part.iter().filter(|field| is_event(field)).filter(|field| number(field) < number(&again));
-    part.insert(1 + steps.count(), again);
+    // another harm may have taken the part's sizes field
+    let place = part.len().min(1 + steps.count());
+    part.insert(place, again);
     let count = part.iter().filter(|field| is_event(field)).count();
     recount(part, count as u32);
     true
@@ -244,15 +247,16 @@ fn twice(parts: &mut [Part], random: &mut Random) -> bool {
 
 /// One of the sizes is another, in its range or beyond it.
 fn other_sizes(mut sizes: Sizes, beyond: bool, random: &mut Random) -> Sizes {
-    let Sizes { n, k, w, r } = &mut sizes;
-    let (size, most) = match random.below(4) {
-        0 => (n, 1024),
-        1 => (k, 8),
-        2 => (w, 8),
-        _ => (r, 16),
+    let Sizes { n, k, w, r, b } = &mut sizes;
+    let (size, least, most) = match random.below(5) {
+        0 => (n, 1, 1024),
+        1 => (k, 1, 8),
+        2 => (w, 1, 8),
+        3 => (r, 1, 16),
+        _ => (b, 0_u16, 16_u16),
     };
     *size = match beyond {
-        true => random.pick(&[0, most + 1, most << 5, u16::MAX]),
+        true => random.pick(&[least.wrapping_sub(1), most + 1, most << 5, u16::MAX]),
         false if *size == most => most - 1,
         false => *size + 1,
     };

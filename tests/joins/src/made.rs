@@ -1,9 +1,10 @@
 //! Parts from a seed, whole and harmed, joined by both.
 
+use second::pool::Sizes;
 use second::random::Random;
 use second::trace::{replay_takes, Refusal};
 
-use crate::both::{compare, hold, Joined};
+use crate::both::{compare, hold, sizes_of, Joined};
 use crate::deal::{self, Dealt};
 use crate::harm::Harm;
 use crate::reached::Reached;
@@ -14,6 +15,8 @@ const BACK: &str = "the dealt trace came back";
 const TWO_DIGITS: &str = "9 joined before 10, from a later part";
 const TWO_BYTES: &str = "255 joined before 256, from a later part";
 const THREE_BYTES: &str = "65,535 joined before 65,536, from a later part";
+const BOTH_LENGTHS: &str = "joined from parts with sizes of length 8 and of length 10";
+const BOARDS_DIFFER: &str = "two parts that differ in B alone";
 const LARGER: &str = "joined at sizes that `replay` does not take";
 const BEHIND_WHOLE: &str = "a refused part behind one that is whole";
 const TWO_HARMS: &str = "two things wrong at once";
@@ -39,7 +42,18 @@ const LATER_SIZES: (u8, bool) = (1, true);
 pub fn all_words() -> Vec<String> {
     let answers = ANSWERS.into_iter().chain([LATER_SIZES]).map(|(number, field)| answered(number, field));
     let joined = (1..=9).map(joined_from);
-    let others = [BACK, TWO_DIGITS, TWO_BYTES, THREE_BYTES, LARGER, BEHIND_WHOLE, TWO_HARMS].into_iter();
+    let others = [
+        BACK,
+        TWO_DIGITS,
+        TWO_BYTES,
+        THREE_BYTES,
+        BOTH_LENGTHS,
+        BOARDS_DIFFER,
+        LARGER,
+        BEHIND_WHOLE,
+        TWO_HARMS,
+    ]
+    .into_iter();
     let harms = Harm::ALL.map(Harm::words).into_iter().chain(Wrong::ALL.map(Wrong::words));
     let words = others.chain(harms).chain(room::WORDS).map(String::from);
     answers.chain(joined).chain(deal::all_words()).chain(words).collect()
@@ -93,8 +107,19 @@ pub fn run(seed: u64, reached: &mut Reached) -> Result<(), String> {
     }
     reached.situation(room_words);
     reached.situation(dealt.words);
+    if differ_in_b_alone(&parts) && matches!(joined, Err(Refusal { number: 15, .. })) {
+        reached.situation(BOARDS_DIFFER);
+    }
     count(&joined, &lengths, reached);
     Ok(())
+}
+
+/// Whether the parts have different sizes, which would be the same without B.
+fn differ_in_b_alone(parts: &[Vec<u8>]) -> bool {
+    let sizes: Vec<_> = parts.iter().map(|part| sizes_of(part)).collect();
+    let without: Vec<_> = sizes.iter().map(|sizes| sizes.map(|sizes| Sizes { b: 0, ..sizes })).collect();
+    let same = |list: &[Option<Sizes>]| list.iter().all(|sizes| *sizes == list[0]);
+    !same(&sizes) && same(&without)
 }
 
 /// The call that lays the parts end to end itself, where the lengths are those of the parts.
@@ -128,6 +153,10 @@ fn given_back(dealt: &Dealt, joined: &Joined, room: usize, reached: &mut Reached
                 reached.situation(words);
             }
         }
+    }
+    let lengths = [8, 10].map(|length| dealt.parts.iter().any(|part| part[0][2] == length));
+    if lengths == [true, true] {
+        reached.situation(BOTH_LENGTHS);
     }
     if !replay_takes(dealt.sizes) {
         reached.situation(LARGER);

@@ -77,14 +77,15 @@ impl<'a> Check<'a> {
     }
 
     /// A fresh pool is sound.
-    pub fn fresh(&mut self, pool: &Pool) -> Result<(), String> {
+    pub fn fresh(&mut self, pool: &Pool, carries_b: bool) -> Result<(), String> {
+        self.tally.begin(pool.sizes, carries_b);
         sound(pool)
     }
 
     /// Every promise after one event.
     pub fn event(&mut self, before: &Pool, event: Event, answer: Answer, after: &Pool) -> Result<(), String> {
         let moment = Moment { before, event, answer, after };
-        self.tally.event(before, event, answer);
+        self.tally.event(before, event, answer, after);
         refused_changes_nothing(&moment)?;
         freed_is_out_of_reach(&moment)?;
         sound(after)?;
@@ -142,7 +143,7 @@ impl<'a> Check<'a> {
             };
         }
         if let Some(record) = moment.freed() {
-            self.last_seen.retain(|link, _| link.of != record);
+            self.last_seen.retain(|link, _| link.record() != Some(record));
         }
     }
 
@@ -208,11 +209,11 @@ fn refused_changes_nothing(moment: &Moment) -> Result<(), String> {
     hold(moment.answer.number == 0 || nothing, || "a refused event has a value or changes something".into())
 }
 
-/// A freed record is out of every worker's reach.
+/// A freed record is out of reach of every register and board entry.
 fn freed_is_out_of_reach(moment: &Moment) -> Result<(), String> {
     match moment.freed() {
         Some(record) => hold(!reached(moment.before).contains(&record), || {
-            format!("record {} was freed and is in a worker's reach", record.0)
+            format!("record {} was freed and is in reach of a register or a board entry", record.0)
         }),
         None => Ok(()),
     }

@@ -17,6 +17,7 @@ pub enum Damage {
     SizesTwice,
     SizesLate,
     SizesOutOfRange,
+    SizesLengthAltered,
     EndEarly,
     CountAltered,
     Noise,
@@ -24,7 +25,7 @@ pub enum Damage {
 }
 
 impl Damage {
-    pub const ALL: [Damage; 15] = [
+    pub const ALL: [Damage; 16] = [
         Damage::Cut,
         Damage::CutBetweenFields,
         Damage::Extended,
@@ -36,6 +37,7 @@ impl Damage {
         Damage::SizesTwice,
         Damage::SizesLate,
         Damage::SizesOutOfRange,
+        Damage::SizesLengthAltered,
         Damage::EndEarly,
         Damage::CountAltered,
         Damage::Noise,
@@ -55,6 +57,7 @@ impl Damage {
             Damage::SizesTwice => "sizes twice",
             Damage::SizesLate => "sizes late or missing",
             Damage::SizesOutOfRange => "sizes out of range",
+            Damage::SizesLengthAltered => "the sizes' length altered",
             Damage::EndEarly => "the end field early",
             Damage::CountAltered => "the end's count altered",
             Damage::Noise => "bytes at random",
@@ -79,6 +82,7 @@ impl Damage {
             Damage::SizesTwice => parts.insert(any + 1, sizes_again(fields[0], random)),
             Damage::SizesLate => sizes_late(&mut parts, any, random),
             Damage::SizesOutOfRange => parts[0] = out_of_range(fields[0], random).bytes(),
+            Damage::SizesLengthAltered => parts[0][2] = random.pick(&[0, 6, 8, 9, 10, 12]),
             Damage::EndEarly => parts.insert(any, end_with(any, random).bytes()),
             Damage::CountAltered => alter_number(&mut parts[last], random),
             Damage::Noise => return noise(100, random),
@@ -125,7 +129,8 @@ fn other_tag(random: &mut Random) -> u8 {
 
 /// A length of another kind, one with its bytes the wrong way round, or any.
 fn other_length(random: &mut Random) -> [u8; 2] {
-    let length = random.pick(&Kind::ALL).length() as u16;
+    let kind = random.pick(&Kind::ALL);
+    let length = random.pick(kind.lengths()) as u16;
     let any = random.number() as u16;
     random.pick(&[length.to_be_bytes(), length.to_le_bytes(), [0, 0], any.to_be_bytes()])
 }
@@ -156,18 +161,20 @@ fn sizes_late(parts: &mut Vec<Vec<u8>>, place: usize, random: &mut Random) {
     }
 }
 
-/// One size is 0, or just beyond what `replay` takes, or what the pool itself takes, or far off.
+/// One size is 0, which B may be and which for it is 17, or just beyond what `replay` takes, or what the
+/// pool itself takes, or far off.
 fn out_of_range(field: Field, random: &mut Random) -> Field {
-    let Field::Sizes(mut sizes) = field else { return field };
-    let Sizes { n, k, w, r } = &mut sizes;
-    let (size, largest) = match random.below(4) {
-        0 => (n, [LARGEST.n + 1, 1024]),
-        1 => (k, [LARGEST.k + 1, 8]),
-        2 => (w, [LARGEST.w + 1, 8]),
-        _ => (r, [LARGEST.r + 1, 16]),
+    let Field::Sizes { mut sizes, .. } = field else { return field };
+    let Sizes { n, k, w, r, b } = &mut sizes;
+    let (size, beyond) = match random.below(5) {
+        0 => (n, [0, LARGEST.n + 1, 1024]),
+        1 => (k, [0, LARGEST.k + 1, 8]),
+        2 => (w, [0, LARGEST.w + 1, 8]),
+        3 => (r, [0, LARGEST.r + 1, 16]),
+        _ => (b, [17, LARGEST.b + 1, 16]),
     };
-    *size = random.pick(&[0, largest[0], largest[1], 256, u16::MAX]);
-    Field::Sizes(sizes)
+    *size = random.pick(&[beyond[0], beyond[1], beyond[2], 256, u16::MAX]);
+    Field::of_sizes(sizes)
 }
 
 /// An end field for a trace of so many fields, at times with another count.

@@ -15,6 +15,8 @@ pub enum Event {
     Drop { w: u8, r: u8 },
     Load { w: u8, r: u8, q: u8, f: u8 },
     Store { w: u8, q: u8, f: u8, r: u8 },
+    Look { w: u8, r: u8, e: u8 },
+    Post { w: u8, e: u8, r: u8 },
     Collect,
 }
 
@@ -42,6 +44,8 @@ pub fn happen(pool: &mut Pool, event: Event) -> Answer {
         Event::Drop { w, r } => worker::drop(pool, w.into(), r.into()),
         Event::Load { w, r, q, f } => worker::load(pool, w.into(), r.into(), q.into(), f.into()),
         Event::Store { w, q, f, r } => worker::store(pool, w.into(), q.into(), f.into(), r.into()),
+        Event::Look { w, r, e } => worker::look(pool, w.into(), r.into(), e.into()),
+        Event::Post { w, e, r } => worker::post(pool, w.into(), e.into(), r.into()),
         Event::Collect => collector::collect(pool),
     };
     Answer { number: 0, value }
@@ -54,7 +58,7 @@ fn refusal(pool: &Pool, event: Event) -> Option<u8> {
         Some(NO_SUCH_WORKER)
     } else if names_no_such_register(pool.sizes, event) {
         Some(NO_SUCH_REGISTER)
-    } else if names_no_such_link(pool.sizes, event) {
+    } else if names_no_such_link(pool.sizes, event) || names_no_such_entry(pool.sizes, event) {
         Some(NO_SUCH_LINK)
     } else if goes_through_none(pool, event) {
         Some(THROUGH_NONE)
@@ -72,7 +76,9 @@ pub fn names_no_such_worker(sizes: Sizes, event: Event) -> bool {
         | Event::Move { w, .. }
         | Event::Drop { w, .. }
         | Event::Load { w, .. }
-        | Event::Store { w, .. } => u16::from(w) >= sizes.w,
+        | Event::Store { w, .. }
+        | Event::Look { w, .. }
+        | Event::Post { w, .. } => u16::from(w) >= sizes.w,
         Event::Collect => false,
     }
 }
@@ -81,7 +87,9 @@ pub fn names_no_such_worker(sizes: Sizes, event: Event) -> bool {
 pub fn names_no_such_register(sizes: Sizes, event: Event) -> bool {
     let no_such = |register: u8| u16::from(register) >= sizes.r;
     match event {
-        Event::Make { r, .. } | Event::Drop { r, .. } => no_such(r),
+        Event::Make { r, .. } | Event::Drop { r, .. } | Event::Look { r, .. } | Event::Post { r, .. } => {
+            no_such(r)
+        }
         Event::Move { r, q, .. } | Event::Load { r, q, .. } | Event::Store { q, r, .. } => {
             no_such(r) || no_such(q)
         }
@@ -93,7 +101,15 @@ pub fn names_no_such_register(sizes: Sizes, event: Event) -> bool {
 pub fn names_no_such_link(sizes: Sizes, event: Event) -> bool {
     match event {
         Event::Load { f, .. } | Event::Store { f, .. } => u16::from(f) >= sizes.k,
-        Event::Make { .. } | Event::Move { .. } | Event::Drop { .. } | Event::Collect => false,
+        _ => false,
+    }
+}
+
+/// "14 also for a board entry that isn't there" (document 02, request 5).
+pub fn names_no_such_entry(sizes: Sizes, event: Event) -> bool {
+    match event {
+        Event::Look { e, .. } | Event::Post { e, .. } => u16::from(e) >= sizes.b,
+        _ => false,
     }
 }
 

@@ -1,13 +1,13 @@
 //! What a worker sets out to do next: a few events in a row, between which the collector and the
 //! other workers have their turns.
 //!
-//! A record made by one worker never comes to another while it is used (see `tally`); it passes
-//! from worker to worker by being freed and made again, and from register to register through
-//! links.
+//! A record passes from register to register through links, and from worker to worker through the
+//! board, or by being freed and made again.
 
 use crate::event::Event;
 use crate::pool::Pool;
 use crate::random::Random;
+use crate::reach::posted;
 
 #[derive(Clone, Copy, Debug)]
 pub enum Habit {
@@ -22,6 +22,11 @@ pub enum Habit {
     StoreTheSame,
     Unlink,
     Wander,
+    PostAndDrop,
+    PostAgainAndAgain,
+    PostTheSame,
+    LookUp,
+    TakeOff,
     MakeAll,
     DropAll,
     Anything,
@@ -29,7 +34,7 @@ pub enum Habit {
 }
 
 impl Habit {
-    pub const ALL: [Habit; 15] = [
+    pub const ALL: [Habit; 20] = [
         Habit::ChainFromTheTail,
         Habit::ChainFromTheHead,
         Habit::Share,
@@ -41,18 +46,36 @@ impl Habit {
         Habit::StoreTheSame,
         Habit::Unlink,
         Habit::Wander,
+        Habit::PostAndDrop,
+        Habit::PostAgainAndAgain,
+        Habit::PostTheSame,
+        Habit::LookUp,
+        Habit::TakeOff,
         Habit::MakeAll,
         Habit::DropAll,
         Habit::Anything,
         Habit::OutOfRange,
     ];
 
+    /// Whether it begins with a look at the board, for which no register need hold anything.
+    fn looks(self) -> bool {
+        matches!(self, Habit::PostTheSame | Habit::LookUp | Habit::TakeOff)
+    }
+
+    fn is_of_the_board(self) -> bool {
+        self.looks() || matches!(self, Habit::PostAndDrop | Habit::PostAgainAndAgain)
+    }
+
     /// The next few events of worker `w`. With nothing in its registers it mostly makes a record
-    /// first, or waits for one to be freed.
+    /// first, or waits for one to be freed; where there is no board it mostly leaves it alone.
     pub fn plan(self, pool: &Pool, w: u8, random: &mut Random) -> Vec<Event> {
         let mut hand = Hand { pool, w, random };
-        if hand.is_empty() && hand.random.percent(90) {
+        let finds = self.looks() && posted(pool).next().is_some();
+        if hand.is_empty() && !finds && hand.random.percent(90) {
             return hand.make_or_wait();
+        }
+        if self.is_of_the_board() && pool.sizes.b == 0 && hand.random.percent(90) {
+            return vec![hand.anything()];
         }
         match self {
             Habit::ChainFromTheTail => hand.chain_from_the_tail(),
@@ -66,6 +89,11 @@ impl Habit {
             Habit::StoreTheSame => hand.store_the_same(),
             Habit::Unlink => hand.unlink(),
             Habit::Wander => hand.wander(),
+            Habit::PostAndDrop => hand.post_and_drop(),
+            Habit::PostAgainAndAgain => hand.post_again_and_again(),
+            Habit::PostTheSame => hand.post_the_same(),
+            Habit::LookUp => hand.look_up(),
+            Habit::TakeOff => hand.take_off(),
             Habit::MakeAll => hand.make_all(),
             Habit::DropAll => hand.drop_all(),
             Habit::Anything => vec![hand.anything()],
@@ -105,6 +133,10 @@ impl Hand<'_> {
         self.random.below(self.pool.sizes.k.into()) as u8
     }
 
+    fn e(&mut self) -> u8 {
+        self.random.below(self.pool.sizes.b.into()) as u8
+    }
+
     fn make(&self, r: u8) -> Event {
         Event::Make { w: self.w, r }
     }
@@ -123,6 +155,14 @@ impl Hand<'_> {
 
     fn store(&self, q: u8, f: u8, r: u8) -> Event {
         Event::Store { w: self.w, q, f, r }
+    }
+
+    fn look(&self, r: u8, e: u8) -> Event {
+        Event::Look { w: self.w, r, e }
+    }
+
+    fn post(&self, e: u8, r: u8) -> Event {
+        Event::Post { w: self.w, e, r }
     }
 
     fn make_or_wait(&mut self) -> Vec<Event> {
@@ -232,6 +272,44 @@ impl Hand<'_> {
             .collect()
     }
 
+    /// Another worker may find it there, before the drop or after it; for a while the board may be all
+    /// that holds it.
+    fn post_and_drop(&mut self) -> Vec<Event> {
+        let (e, r) = (self.e(), self.full());
+        vec![self.post(e, r), self.drop(r)]
+    }
+
+    /// One entry, now and then with none.
+    fn post_again_and_again(&mut self) -> Vec<Event> {
+        let e = self.e();
+        (0..4)
+            .map(|_| {
+                let r = if self.random.percent(70) { self.full() } else { self.register() };
+                self.post(e, r)
+            })
+            .collect()
+    }
+
+    fn post_the_same(&mut self) -> Vec<Event> {
+        let (e, r) = (self.e(), self.register());
+        vec![self.look(r, e), self.post(e, r)]
+    }
+
+    fn look_up(&mut self) -> Vec<Event> {
+        (0..2)
+            .map(|_| {
+                let (r, e) = (self.register(), self.e());
+                self.look(r, e)
+            })
+            .collect()
+    }
+
+    /// The entry is emptied once a register holds what it held, or nobody does.
+    fn take_off(&mut self) -> Vec<Event> {
+        let (e, taken, none) = (self.e(), self.register(), self.register());
+        vec![self.look(taken, e), self.drop(none), self.post(e, none)]
+    }
+
     fn make_all(&mut self) -> Vec<Event> {
         let makes = self.pool.free_records() + 1;
         (0..makes)
@@ -247,13 +325,15 @@ impl Hand<'_> {
     }
 
     fn anything(&mut self) -> Event {
-        let (r, q, f) = (self.register(), self.register(), self.f());
-        match self.random.below(5) {
+        let (r, q, f, e) = (self.register(), self.register(), self.f(), self.e());
+        match self.random.below(7) {
             0 => self.make(r),
             1 => self.move_(r, q),
             2 => self.drop(r),
             3 => self.load(r, q, f),
-            _ => self.store(q, f, r),
+            4 => self.store(q, f, r),
+            5 => self.look(r, e),
+            _ => self.post(e, r),
         }
     }
 
@@ -264,7 +344,7 @@ impl Hand<'_> {
         let sizes = self.pool.sizes;
         for _ in 0..1 + self.random.below(3) {
             let place = self.random.below(numbers.len());
-            let size = self.random.pick(&[sizes.w, sizes.r, sizes.k]);
+            let size = self.random.pick(&[sizes.w, sizes.r, sizes.k, sizes.b]);
             numbers[place] = self.random.pick(&[size as u8, size as u8 + 1, 255]);
         }
         event.kind().event(&numbers).unwrap_or(event)

@@ -61,13 +61,14 @@ fn lent<'a>(slice: &'a [u8], lengths: &[u64]) -> Option<Vec<(usize, &'a [u8])>> 
 /// "part by part 01's field refusals in 01's order": a whole part.
 fn read(bytes: &[u8]) -> Result<Part<'_>, Refusal> {
     let mut reader = Reader::of_part(bytes);
-    let mut part = Part { sizes: Sizes { n: 0, k: 0, w: 0, r: 0 }, sizes_field: &[], events: Vec::new() };
+    let none = Sizes { n: 0, k: 0, w: 0, r: 0, b: 0 };
+    let mut part = Part { sizes: none, sizes_field: &[], events: Vec::new() };
     loop {
         let (start, _) = reader.at();
         let field = reader.next_field()?;
         let (end, _) = reader.at();
         match field {
-            Some(Field::Sizes(sizes)) => (part.sizes, part.sizes_field) = (sizes, &bytes[start..end]),
+            Some(Field::Sizes { sizes, .. }) => (part.sizes, part.sizes_field) = (sizes, &bytes[start..end]),
             Some(Field::Event { step, .. }) => part.events.push((step, &bytes[start..end])),
             // A byte after the end field still refuses the part.
             Some(Field::End { .. }) => {}

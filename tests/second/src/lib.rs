@@ -5,7 +5,7 @@
 //! The rules
 //! - `pool`       what a pool consists of, and a fresh one
 //! - `event`      the events, their answers, and the order of an event's refusals
-//! - `worker`     make, move, drop, load, store
+//! - `worker`     make, move, drop, load, store, look, post
 //! - `collector`  the collector's steps
 //!
 //! The program
@@ -19,6 +19,7 @@
 //! - `reach`      what is reached, lost, and left to closed loops
 //! - `check`      the promises, held to after every event
 //! - `tally`      what a set of traces reached
+//! - `board`      what is counted there of the board
 //!
 //! The made traces
 //! - `random`     a seeded stream of numbers
@@ -29,6 +30,7 @@
 
 #![forbid(unsafe_code)]
 
+pub mod board;
 pub mod check;
 pub mod collector;
 pub mod damage;

@@ -69,23 +69,40 @@ pub fn make_with_field_at(seed: u64, kind: Kind, offset: usize) -> Vec<u8> {
 /// limits of `replay`.
 fn choose_sizes(random: &mut Random) -> Sizes {
     match random.below(20) {
-        0..=8 => up_to(Sizes { n: 4, k: 2, w: 2, r: 3 }, random),
-        9..=15 => up_to(Sizes { n: 8, k: 3, w: 3, r: 4 }, random),
-        16..=18 => up_to(Sizes { n: 24, k: 4, w: 4, r: 6 }, random),
+        0..=8 => up_to(Sizes { n: 4, k: 2, w: 2, r: 3, b: 2 }, random),
+        9..=15 => up_to(Sizes { n: 8, k: 3, w: 3, r: 4, b: 3 }, random),
+        16..=18 => up_to(Sizes { n: 24, k: 4, w: 4, r: 6, b: 6 }, random),
         _ => at_the_limits(LARGEST, 70, random),
     }
 }
 
-/// Each size from 1 to this one.
+/// Each size from the least to this one.
 pub fn up_to(most: Sizes, random: &mut Random) -> Sizes {
-    let mut size = |most| random.between(1, most);
-    Sizes { n: size(most.n), k: size(most.k), w: size(most.w), r: size(most.r) }
+    let mut size = |least, most| random.between(least, most);
+    Sizes {
+        n: size(1, most.n),
+        k: size(1, most.k),
+        w: size(1, most.w),
+        r: size(1, most.r),
+        b: size(0, most.b),
+    }
 }
 
-/// Each size as large as it may be, so many times of a hundred, else 1.
+/// Each size as large as it may be, so many times of a hundred, else the least.
 pub fn at_the_limits(largest: Sizes, percent: usize, random: &mut Random) -> Sizes {
-    let mut limit = |largest| if random.percent(percent) { largest } else { 1 };
-    Sizes { n: limit(largest.n), k: limit(largest.k), w: limit(largest.w), r: limit(largest.r) }
+    let mut limit = |least, largest| if random.percent(percent) { largest } else { least };
+    Sizes {
+        n: limit(1, largest.n),
+        k: limit(1, largest.k),
+        w: limit(1, largest.w),
+        r: limit(1, largest.r),
+        b: limit(0, largest.b),
+    }
+}
+
+/// The sizes field. Without a board it carries B or not.
+pub fn sizes_field(sizes: Sizes, random: &mut Random) -> Field {
+    Field::Sizes { sizes, carries_b: sizes.b > 0 || random.percent(50) }
 }
 
 struct Maker {
@@ -104,12 +121,13 @@ struct Maker {
 
 impl Maker {
     fn new(sizes: Sizes, mut random: Random) -> Maker {
+        let sizes_field = sizes_field(sizes, &mut random);
         Maker {
             loops: random.percent(35),
             random,
             pool: Pool::fresh(sizes),
-            fields: vec![Field::Sizes(sizes)],
-            bytes: Field::Sizes(sizes).bytes().len(),
+            fields: vec![sizes_field],
+            bytes: sizes_field.bytes().len(),
             steps: 0,
             plans: vec![Vec::new(); usize::from(sizes.w)],
         }

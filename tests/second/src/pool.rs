@@ -1,4 +1,5 @@
-//! What a pool consists of: the section "Sizes" of document 01, and document 02's last made number.
+//! What a pool consists of: the section "Sizes" of document 01, and document 02's last made number and
+//! board.
 
 use std::collections::{BTreeMap, BTreeSet};
 
@@ -6,12 +7,23 @@ use std::collections::{BTreeMap, BTreeSet};
 #[derive(Clone, Copy, Debug, PartialEq, Eq, PartialOrd, Ord)]
 pub struct Record(pub u16);
 
-/// Link `f` of the record `of`. The order of links is that of their numbers, (a-1) x K + f; the
-/// number itself is never needed, so no record number can be taken for it.
+/// Link `f` of a record, or a board entry: "They are links like the others, numbered N x K and up"
+/// (document 02, request 5). The order of links is that of their numbers; the number itself is never
+/// needed, so no record number can be taken for it.
 #[derive(Clone, Copy, Debug, PartialEq, Eq, PartialOrd, Ord)]
-pub struct Link {
-    pub of: Record,
-    pub f: usize,
+pub enum Link {
+    Of { record: Record, f: usize },
+    Board { entry: usize },
+}
+
+impl Link {
+    /// The record that it is a link of. A board entry belongs to no record.
+    pub fn record(self) -> Option<Record> {
+        match self {
+            Link::Of { record, .. } => Some(record),
+            Link::Board { .. } => None,
+        }
+    }
 }
 
 /// An entry of a log or of the history: (link, old value).
@@ -21,31 +33,37 @@ pub struct Entry {
     pub old: Option<Record>,
 }
 
-/// "N records, K links in each, W workers, R registers per worker."
+/// "N records, K links in each, W workers, R registers per worker." "Add B entries, 0 to 16, of one
+/// record number each" (document 02, request 5).
 #[derive(Clone, Copy, Debug, PartialEq, Eq)]
 pub struct Sizes {
     pub n: u16,
     pub k: u16,
     pub w: u16,
     pub r: u16,
+    pub b: u16,
 }
 
 impl Sizes {
-    /// "There are S = N x K links."
+    /// "S becomes N x K + B" (document 02, request 5).
     pub fn s(&self) -> usize {
-        usize::from(self.n) * usize::from(self.k)
+        usize::from(self.n) * usize::from(self.k) + usize::from(self.b)
     }
 
     pub fn records(&self) -> impl Iterator<Item = Record> {
         (1..=self.n).map(Record)
     }
 
-    pub fn links_of(&self, of: Record) -> impl Iterator<Item = Link> {
-        (0..usize::from(self.k)).map(move |f| Link { of, f })
+    pub fn links_of(&self, record: Record) -> impl Iterator<Item = Link> {
+        (0..usize::from(self.k)).map(move |f| Link::Of { record, f })
+    }
+
+    pub fn board(&self) -> impl Iterator<Item = Link> {
+        (0..usize::from(self.b)).map(|entry| Link::Board { entry })
     }
 
     pub fn links(&self) -> impl Iterator<Item = Link> + '_ {
-        self.records().flat_map(|record| self.links_of(record))
+        self.records().flat_map(|record| self.links_of(record)).chain(self.board())
     }
 }
 

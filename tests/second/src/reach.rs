@@ -26,18 +26,27 @@ fn linked_from(pool: &Pool, record: Record) -> impl Iterator<Item = Record> + '_
     pool.sizes.links_of(record).filter_map(|link| pool.value(link))
 }
 
-/// "A worker reaches what its registers hold and, from a reached record, the present values of
-/// its links."
-pub fn reached_by(pool: &Pool, worker: &Worker) -> BTreeSet<Record> {
-    lead_to(pool, worker.registers.iter().flatten().copied(), |_| true)
-}
-
-/// What some worker reaches. "Worker registers are the only roots."
+/// What is reached from some worker's registers or from the board: "From here "reach" in demand 3
+/// begins at registers and board entries, and board links count" (document 02, request 5).
 pub fn reached(pool: &Pool) -> BTreeSet<Record> {
-    pool.workers.iter().flat_map(|worker| reached_by(pool, worker)).collect()
+    let held = pool.workers.iter().flat_map(|worker| worker.registers.iter().flatten().copied());
+    lead_to(pool, held.chain(posted(pool)), |_| true)
 }
 
-/// Used, and out of every worker's reach.
+/// The present values of the board entries.
+pub fn posted(pool: &Pool) -> impl Iterator<Item = Record> + '_ {
+    pool.sizes.board().filter_map(|entry| pool.value(entry))
+}
+
+/// The records that board entries hold, and no register and no link of a record.
+pub fn held_by_the_board_alone(pool: &Pool) -> BTreeSet<Record> {
+    let held = pool.workers.iter().flat_map(|worker| worker.registers.iter().flatten());
+    let linked = pool.values.iter().filter(|(link, _)| link.record().is_some()).map(|(_, record)| record);
+    let elsewhere: BTreeSet<Record> = held.chain(linked).copied().collect();
+    posted(pool).filter(|record| !elsewhere.contains(record)).collect()
+}
+
+/// Used, and out of reach.
 pub fn lost(pool: &Pool) -> BTreeSet<Record> {
     pool.used.difference(&reached(pool)).copied().collect()
 }
@@ -55,7 +64,13 @@ pub fn would_close_a_loop(pool: &Pool, from: Record, to: Record) -> bool {
     lead_to(pool, [to], |_| true).contains(&from)
 }
 
-/// Whether some record is reached by two workers.
+/// "A worker reaches what its registers hold and, from a reached record, the present values of
+/// its links."
+fn reached_by(pool: &Pool, worker: &Worker) -> BTreeSet<Record> {
+    lead_to(pool, worker.registers.iter().flatten().copied(), |_| true)
+}
+
+/// Whether some record is reached from the registers of two workers.
 pub fn two_workers_share(pool: &Pool) -> bool {
     let mut by_others = BTreeSet::new();
     pool.workers.iter().any(|worker| {

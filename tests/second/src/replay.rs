@@ -30,9 +30,9 @@ pub fn replay(trace: &[u8], out: &mut impl Write, mut check: Option<&mut Check>)
             Err(refusal) => return refused(out, refusal),
         };
         match (field, &mut pool) {
-            (Field::Sizes(sizes), _) => {
+            (Field::Sizes { sizes, carries_b }, _) => {
                 let fresh = Pool::fresh(sizes);
-                if let Some(Err(sentence)) = check.as_mut().map(|check| check.fresh(&fresh)) {
+                if let Some(Err(sentence)) = check.as_mut().map(|check| check.fresh(&fresh, carries_b)) {
                     return Ok(Ending::Broken { step: 0, sentence });
                 }
                 pool = Some(fresh);
@@ -99,7 +99,7 @@ mod tests {
         let worker = [Event::Make { w, r }, Event::Store { w, q: 0, f: 0, r }, Event::Drop { w, r }];
         let events = worker.into_iter().chain([Event::Collect; 8]);
         let events = (1..).zip(events).map(|(step, event)| Field::Event { step, event });
-        let sizes = Field::Sizes(Sizes { n: 2, k: 1, w: 1, r: 1 });
+        let sizes = Field::of_sizes(Sizes { n: 2, k: 1, w: 1, r: 1, b: 0 });
         let fields = [sizes].into_iter().chain(events).chain([Field::End { count: 11 }]);
         let whole: Vec<u8> = fields.flat_map(|field| field.bytes()).collect();
         let lines: Vec<String> = printed(&whole).lines().map(String::from).collect();

@@ -15,9 +15,9 @@ pub fn row(name: &str, trace: &[u8], most: usize) -> Option<String> {
     let mut pool = Pool::fresh(sizes);
     let replies: Vec<String> = events.iter().map(|event| reply(&mut pool, *event)).collect();
     let said: Vec<String> = events.iter().map(said).collect();
-    let Sizes { n, k, w, r } = sizes;
+    let Sizes { n, k, w, r, b } = sizes;
     Some(format!(
-        "{name} : Row\n{name} =\n    row (sizesOf {n} {k} {w} {r})\n    ({})\n    ({})\n    (end {} {} ∷ [])\n\n\
+        "{name} : Row\n{name} =\n    row (sizesAndBoard {n} {k} {w} {r} {b})\n    ({})\n    ({})\n    (end {} {} ∷ [])\n\n\
          {name}-holds : T (computes {name})\nunfolding computes {name}\n{name}-holds = tt\n",
         list(&said),
         list(&replies),
@@ -32,7 +32,7 @@ fn whole(trace: &[u8]) -> Option<(Sizes, Vec<Event>)> {
     let (mut sizes, mut events) = (None, Vec::new());
     while let Some(field) = reader.next_field().ok()? {
         match field {
-            Field::Sizes(read) => sizes = Some(read),
+            Field::Sizes { sizes: read, .. } => sizes = Some(read),
             Field::Event { event, .. } => events.push(event),
             Field::End { .. } => {}
         }

@@ -93,9 +93,12 @@ fn record_numbers(pool: &Pool) -> bool {
         && entries(pool).all(|entry| entry.old.is_none_or(|old| is_one(&old)))
 }
 
-/// A link is there: its record is, and has that link.
+/// A link is there: its record is, and has that link; or it is an entry of the board.
 fn is_link(pool: &Pool, link: &Link) -> bool {
-    (1..=pool.sizes.n).contains(&link.of.0) && link.f < usize::from(pool.sizes.k)
+    match *link {
+        Link::Of { record, f } => (1..=pool.sizes.n).contains(&record.0) && f < usize::from(pool.sizes.k),
+        Link::Board { entry } => entry < usize::from(pool.sizes.b),
+    }
 }
 
 /// "link numbers in entries below S." A value or a mark of a link that is not there has no place in
@@ -198,11 +201,12 @@ mod tests {
     use crate::event::{happen, Event};
     use crate::pool::Sizes;
 
-    /// A pool in phase 3 with a link marked, one record held and one count yet to rise.
+    /// A pool in phase 3 with a link and a board entry marked, and two counts yet to rise.
     fn amid_a_cycle() -> Pool {
-        let mut pool = Pool::fresh(Sizes { n: 2, k: 1, w: 1, r: 1 });
+        let mut pool = Pool::fresh(Sizes { n: 2, k: 1, w: 1, r: 1, b: 1 });
         happen(&mut pool, Event::Make { w: 0, r: 0 });
         happen(&mut pool, Event::Store { w: 0, q: 0, f: 0, r: 0 });
+        happen(&mut pool, Event::Post { w: 0, e: 0, r: 0 });
         for _ in 0..3 {
             happen(&mut pool, Event::Collect);
         }
@@ -213,18 +217,20 @@ mod tests {
     /// Each clause is one that can fail: a pool that breaks it and none before it is told so.
     #[test]
     fn each_clause_can_fail() {
-        let link = Link { of: Record(1), f: 0 };
+        let link = Link::Of { record: Record(1), f: 0 };
         type Break = (&'static str, fn(&mut Pool, Link));
-        let breaks: [Break; 11] = [
+        let breaks: [Break; 13] = [
             ("phase 0..6", |pool, _| pool.phase = 7),
-            ("phase 0..6", |pool, _| pool.position = 1),
+            ("phase 0..6", |pool, _| pool.position = 2),
             ("history empty in 0, 1, 6", |pool, _| pool.phase = 1),
             ("record numbers", |pool, _| pool.workers[0].registers[0] = Some(Record(3))),
             ("record numbers", |pool, _| pool.history[0].old = Some(Record(3))),
-            ("link numbers", |pool, _| pool.history[0].link.f = 1),
+            ("link numbers", |pool, _| pool.history[0].link = Link::Of { record: Record(1), f: 1 }),
+            ("link numbers", |pool, _| pool.history[1].link = Link::Board { entry: 1 }),
             ("makers", |pool, _| pool.makers.extend([(Record(1), 1)])),
-            ("list lengths", |pool, link| pool.workers[0].log = vec![Entry { link, old: None }; 3]),
+            ("list lengths", |pool, link| pool.workers[0].log = vec![Entry { link, old: None }; 4]),
             ("a marked link", |pool, _| pool.changed.clear()),
+            ("a marked link", |pool, _| pool.changed.retain(|link| link.record().is_some())),
             ("each record's count", |pool, _| pool.counts.extend([(Record(2), 1)])),
             ("the last made number", |pool, _| pool.last_made = Some(Record(3))),
         ];

@@ -5,16 +5,18 @@ use std::cmp::Ordering;
 use std::collections::{BTreeMap, BTreeSet};
 use std::fmt;
 
+use crate::board::{self, Board};
 use crate::damage::Damage;
 use crate::event::{
-    goes_through_none, makes_without_a_free_record, names_no_such_link, names_no_such_register,
-    names_no_such_worker, Answer, Event,
+    goes_through_none, makes_without_a_free_record, names_no_such_entry, names_no_such_link,
+    names_no_such_register, names_no_such_worker, Answer, Event,
 };
-use crate::pool::{Link, Pool, Record};
+use crate::pool::{Link, Pool, Record, Sizes};
 use crate::replay::Ending;
 use crate::trace::Kind;
 
-const KINDS: [Kind; 6] = [Kind::Make, Kind::Move, Kind::Drop, Kind::Load, Kind::Store, Kind::Collect];
+const KINDS: [Kind; 8] =
+    [Kind::Make, Kind::Move, Kind::Drop, Kind::Load, Kind::Store, Kind::Look, Kind::Post, Kind::Collect];
 
 /// The answer numbers of events and traces. "The number 6 isn't used again" (document 02, request 4).
 const NUMBERS: [u8; 14] = [0, 1, 2, 3, 4, 5, 7, 8, 9, 10, 11, 12, 13, 14];
@@ -22,6 +24,15 @@ const NUMBERS: [u8; 14] = [0, 1, 2, 3, 4, 5, 7, 8, 9, 10, 11, 12, 13, 14];
 /// The one of them that no trace reaches, with the reason. It must stay at 0.
 const UNREACHED: (u8, &str) =
     (2, "not from a trace: it starts fresh, every event leaves a sound pool, none is checked again");
+
+/// How a sizes field says B.
+pub const SIZES_FIELDS: [&str; 3] =
+    ["sizes of length 8", "sizes of length 10 with B = 0", "sizes of length 10 with B above 0"];
+
+/// Which of these a sizes field is.
+pub fn sizes_fields(sizes: Sizes, carries_b: bool) -> [bool; SIZES_FIELDS.len()] {
+    [!carries_b, carries_b && sizes.b == 0, carries_b && sizes.b > 0]
+}
 
 /// What a make comes upon, of the records above the last made, below it, and that record itself.
 pub const MAKES: [&str; 5] = [
@@ -48,11 +59,14 @@ pub fn makes(before: &Pool) -> [bool; MAKES.len()] {
 }
 
 /// What an event may be refused for at once. The first of them is answered.
-pub const WRONGS: [&str; 8] = [
+pub const WRONGS: [&str; 11] = [
     "wrong: a worker and a register",
     "wrong: a worker and a link",
     "wrong: a register and a link",
     "wrong: a worker, a register and a link",
+    "wrong: a worker and a board entry",
+    "wrong: a register and a board entry",
+    "wrong: a worker, a register and a board entry",
     "wrong: a register, and the other one, gone through, holds none",
     "wrong: a link, and the register gone through holds none",
     "wrong: a worker, and no record is free to be made",
@@ -65,13 +79,17 @@ pub fn wrongs(before: &Pool, event: Event) -> [bool; WRONGS.len()] {
     let worker = names_no_such_worker(sizes, event);
     let register = names_no_such_register(sizes, event);
     let link = names_no_such_link(sizes, event);
+    let entry = names_no_such_entry(sizes, event);
     let none = goes_through_none(before, event);
     let full = makes_without_a_free_record(before, event);
     [
-        worker && register && !link,
+        worker && register && !link && !entry,
         worker && !register && link,
         !worker && register && link,
         worker && register && link,
+        worker && !register && entry,
+        !worker && register && entry,
+        worker && register && entry,
         register && !link && none,
         !register && link && none,
         worker && !register && full,
@@ -80,7 +98,7 @@ pub fn wrongs(before: &Pool, event: Event) -> [bool; WRONGS.len()] {
 }
 
 /// Situations that the rules are about and an answer number does not show.
-const SITUATIONS: [&str; 9] = [
+const SITUATIONS: [&str; 10] = [
     "store logs an overwritten record",
     "store on a link that is marked already",
     "snooped store of a record",
@@ -90,11 +108,8 @@ const SITUATIONS: [&str; 9] = [
     "opening with lost records that no loop keeps",
     "opening with lost records that a loop keeps",
     "record made by a worker, freed, and made by another",
+    "opening with a record that the registers of two workers lead to",
 ];
-
-/// No event takes a record out of another worker's register, and a load or a store goes through a
-/// worker's own registers: so no record ever comes into the reach of two workers.
-const SHARED: &str = "openings with a record in the reach of two workers (no event can bring that about)";
 
 #[derive(Default)]
 pub struct Tally {
@@ -107,13 +122,22 @@ pub struct Tally {
     makes: [u64; MAKES.len()],
     wrongs: [u64; WRONGS.len()],
     situations: [u64; SITUATIONS.len()],
-    shared: u64,
+    sizes_fields: [u64; SIZES_FIELDS.len()],
+    board: Board,
     last_maker: BTreeMap<Record, u8>,
 }
 
 impl Tally {
-    /// One event, with the pool it came upon.
-    pub fn event(&mut self, before: &Pool, event: Event, answer: Answer) {
+    /// A fresh pool, of the sizes that a field has said so.
+    pub fn begin(&mut self, sizes: Sizes, carries_b: bool) {
+        self.board.begin();
+        for (times, came) in self.sizes_fields.iter_mut().zip(sizes_fields(sizes, carries_b)) {
+            *times += u64::from(came);
+        }
+    }
+
+    /// One event, with the pool it came upon and the one that it left.
+    pub fn event(&mut self, before: &Pool, event: Event, answer: Answer, after: &Pool) {
         self.answered(answer.number);
         for (times, came) in self.wrongs.iter_mut().zip(wrongs(before, event)) {
             *times += u64::from(came);
@@ -121,6 +145,7 @@ impl Tally {
         if answer.number != 0 {
             return;
         }
+        self.board.event(before, event, answer, after);
         let phase = usize::from(before.phase);
         for (done, kind) in self.done.iter_mut().zip(KINDS) {
             done[phase] += u64::from(kind == event.kind());
@@ -141,8 +166,8 @@ impl Tally {
     fn store(&mut self, before: &Pool, numbers: [u8; 4]) {
         let [w, q, f, r] = numbers.map(usize::from);
         let worker = &before.workers[w];
-        let Some(of) = worker.registers[q] else { return };
-        let link = Link { of, f };
+        let Some(record) = worker.registers[q] else { return };
+        let link = Link::Of { record, f };
         let marked = before.changed.contains(&link);
         self.situations[0] += u64::from(!marked && before.value(link).is_some());
         self.situations[1] += u64::from(marked);
@@ -158,7 +183,7 @@ impl Tally {
             self.situations[3] += u64::from(differs);
         }
         if before.phase == 6 {
-            let marked: BTreeSet<Record> = before.changed.iter().map(|link| link.of).collect();
+            let marked: BTreeSet<Record> = before.changed.iter().filter_map(|link| link.record()).collect();
             let kept_by = |held: bool, outstanding: bool| {
                 before.candidates.iter().any(|record| {
                     before.count(*record) == 0
@@ -184,7 +209,7 @@ impl Tally {
     pub fn opening(&mut self, lost: &BTreeSet<Record>, left: &BTreeSet<Record>, shared: bool) {
         self.situations[6] += u64::from(left.len() < lost.len());
         self.situations[7] += u64::from(!left.is_empty());
-        self.shared += u64::from(shared);
+        self.situations[9] += u64::from(shared);
     }
 
     /// The end of a trace.
@@ -205,7 +230,10 @@ impl Tally {
     fn came_up(&self) -> impl Iterator<Item = (u64, &'static str)> + '_ {
         let makes = self.makes.iter().copied().zip(MAKES);
         let wrongs = self.wrongs.iter().copied().zip(WRONGS);
-        makes.chain(wrongs).chain(self.situations.iter().copied().zip(SITUATIONS))
+        let situations = self.situations.iter().copied().zip(SITUATIONS);
+        let sizes_fields = self.sizes_fields.iter().copied().zip(SIZES_FIELDS);
+        let board = self.board.situations.iter().copied().zip(board::SITUATIONS);
+        makes.chain(wrongs).chain(situations).chain(sizes_fields).chain(board)
     }
 
     /// What should have been reached and was not, and what was reached and cannot be.
@@ -225,6 +253,11 @@ impl Tally {
                 judge(format!("{} in phase {phase}", kind.name()), *times, true);
             }
         }
+        for (row, what) in self.board.in_phases.iter().zip(board::IN_PHASES) {
+            for (phase, times) in row.iter().enumerate() {
+                judge(format!("{what}, in phase {phase}"), *times, true);
+            }
+        }
         for damage in Damage::ALL {
             let times = self.damages.get(damage.name()).copied().unwrap_or(0);
             judge(format!("damage: {}", damage.name()), times, true);
@@ -232,7 +265,6 @@ impl Tally {
         for (times, situation) in self.came_up() {
             judge(situation.into(), times, true);
         }
-        judge(SHARED.into(), self.shared, false);
         faults
     }
 }
@@ -254,6 +286,10 @@ impl fmt::Display for Tally {
         for (row, kind) in self.done.iter().zip(KINDS) {
             writeln!(out, "{:>8} {}", kind.name(), row.map(|times| format!("{times:>9}")).concat())?;
         }
+        writeln!(out, "how often each of these came up in each phase:")?;
+        for (row, what) in self.board.in_phases.iter().zip(board::IN_PHASES) {
+            writeln!(out, "{:>8} {}  {what}", "", row.map(|times| format!("{times:>9}")).concat())?;
+        }
         writeln!(out, "how often each kind of damage was done:")?;
         for (name, times) in &self.damages {
             writeln!(out, "{times:>10}  {name}")?;
@@ -262,6 +298,6 @@ impl fmt::Display for Tally {
         for (times, situation) in self.came_up() {
             writeln!(out, "{times:>10}  {situation}")?;
         }
-        writeln!(out, "{:>10}  {SHARED}", self.shared)
+        Ok(())
     }
 }

@@ -1,13 +1,23 @@
-//! "The trace file" of document 01: the fields, and "Order for a field".
+//! "The trace file" of document 01, with document 02's board: the fields, and "Order for a field".
 
 use crate::event::Event;
 use crate::pool::Sizes;
 
 #[derive(Clone, Copy, Debug, PartialEq, Eq)]
 pub enum Field {
-    Sizes(Sizes),
-    Event { step: u32, event: Event },
-    End { count: u32 },
+    /// "The sizes field with length 10 carries B at its end; length 8 means B = 0" (document 02,
+    /// request 5).
+    Sizes {
+        sizes: Sizes,
+        carries_b: bool,
+    },
+    Event {
+        step: u32,
+        event: Event,
+    },
+    End {
+        count: u32,
+    },
 }
 
 /// What a field's tag says it is.
@@ -19,15 +29,27 @@ pub enum Kind {
     Drop,
     Load,
     Store,
+    Look,
+    Post,
     Collect,
     End,
 }
 
 impl Kind {
-    pub const ALL: [Kind; 8] =
-        [Kind::Sizes, Kind::Make, Kind::Move, Kind::Drop, Kind::Load, Kind::Store, Kind::Collect, Kind::End];
+    pub const ALL: [Kind; 10] = [
+        Kind::Sizes,
+        Kind::Make,
+        Kind::Move,
+        Kind::Drop,
+        Kind::Load,
+        Kind::Store,
+        Kind::Look,
+        Kind::Post,
+        Kind::Collect,
+        Kind::End,
+    ];
 
-    /// The event's name in document 01, and those of the two other fields.
+    /// The event's name in the documents, and those of the two other fields.
     pub fn name(self) -> &'static str {
         match self {
             Kind::Sizes => "sizes",
@@ -36,6 +58,8 @@ impl Kind {
             Kind::Drop => "drop",
             Kind::Load => "load",
             Kind::Store => "store",
+            Kind::Look => "look",
+            Kind::Post => "post",
             Kind::Collect => "collect",
             Kind::End => "end",
         }
@@ -49,19 +73,27 @@ impl Kind {
             Kind::Drop => 0x12,
             Kind::Load => 0x13,
             Kind::Store => 0x14,
+            Kind::Look => 0x15,
+            Kind::Post => 0x16,
             Kind::Collect => 0x20,
             Kind::End => 0x7F,
         }
     }
 
-    /// The length that the tag asks for.
-    pub fn length(self) -> usize {
+    /// The lengths that the tag takes: one, but for the sizes.
+    pub fn lengths(self) -> &'static [usize] {
         match self {
-            Kind::Sizes | Kind::Load | Kind::Store => 8,
-            Kind::Move => 7,
-            Kind::Make | Kind::Drop => 6,
-            Kind::Collect | Kind::End => 4,
+            Kind::Sizes => &[8, 10],
+            Kind::Load | Kind::Store => &[8],
+            Kind::Move | Kind::Look | Kind::Post => &[7],
+            Kind::Make | Kind::Drop => &[6],
+            Kind::Collect | Kind::End => &[4],
         }
+    }
+
+    /// The length that the tag asks for; of the sizes the one without B.
+    pub fn length(self) -> usize {
+        self.lengths()[0]
     }
 
     pub fn of_tag(tag: u8) -> Option<Kind> {
@@ -77,6 +109,8 @@ impl Kind {
             (Kind::Drop, &[w, r]) => Some(Event::Drop { w, r }),
             (Kind::Load, &[w, r, q, f]) => Some(Event::Load { w, r, q, f }),
             (Kind::Store, &[w, q, f, r]) => Some(Event::Store { w, q, f, r }),
+            (Kind::Look, &[w, r, e]) => Some(Event::Look { w, r, e }),
+            (Kind::Post, &[w, e, r]) => Some(Event::Post { w, e, r }),
             (Kind::Collect, &[]) => Some(Event::Collect),
             _ => None,
         }
@@ -91,6 +125,8 @@ impl Event {
             Event::Drop { .. } => Kind::Drop,
             Event::Load { .. } => Kind::Load,
             Event::Store { .. } => Kind::Store,
+            Event::Look { .. } => Kind::Look,
+            Event::Post { .. } => Kind::Post,
             Event::Collect => Kind::Collect,
         }
     }
@@ -102,15 +138,22 @@ impl Event {
             Event::Move { w, r, q } => vec![w, r, q],
             Event::Load { w, r, q, f } => vec![w, r, q, f],
             Event::Store { w, q, f, r } => vec![w, q, f, r],
+            Event::Look { w, r, e } => vec![w, r, e],
+            Event::Post { w, e, r } => vec![w, e, r],
             Event::Collect => vec![],
         }
     }
 }
 
 impl Field {
+    /// Sizes as most traces say them: B where there is a board.
+    pub fn of_sizes(sizes: Sizes) -> Field {
+        Field::Sizes { sizes, carries_b: sizes.b > 0 }
+    }
+
     pub fn kind(&self) -> Kind {
         match self {
-            Field::Sizes(_) => Kind::Sizes,
+            Field::Sizes { .. } => Kind::Sizes,
             Field::Event { event, .. } => event.kind(),
             Field::End { .. } => Kind::End,
         }
@@ -119,14 +162,15 @@ impl Field {
     /// "Fields: tag one byte, length two bytes, payload; all numbers most significant byte first."
     pub fn bytes(&self) -> Vec<u8> {
         let payload: Vec<u8> = match self {
-            Field::Sizes(Sizes { n, k, w, r }) => {
-                [n, k, w, r].into_iter().flat_map(|size| size.to_be_bytes()).collect()
+            Field::Sizes { sizes: Sizes { n, k, w, r, b }, carries_b } => {
+                let all = [n, k, w, r].into_iter().chain(carries_b.then_some(b));
+                all.flat_map(|size| size.to_be_bytes()).collect()
             }
             Field::Event { step, event } => step.to_be_bytes().into_iter().chain(event.numbers()).collect(),
             Field::End { count } => count.to_be_bytes().to_vec(),
         };
         let mut bytes = vec![self.kind().tag()];
-        bytes.extend((self.kind().length() as u16).to_be_bytes());
+        bytes.extend((payload.len() as u16).to_be_bytes());
         bytes.extend(payload);
         bytes
     }
@@ -140,25 +184,34 @@ fn split(rest: &[u8], may_stand: impl Fn(Kind) -> bool) -> Result<(Kind, &[u8]),
         return Err(9);
     };
     let kind = Kind::of_tag(tag).filter(|kind| may_stand(*kind)).ok_or(7)?;
-    if usize::from(u16::from_be_bytes([high, low])) != kind.length() {
+    let length = usize::from(u16::from_be_bytes([high, low]));
+    if !kind.lengths().contains(&length) {
         return Err(8);
     }
-    let payload = after.get(..kind.length()).ok_or(9)?;
+    let payload = after.get(..length).ok_or(9)?;
     Ok((kind, payload))
 }
 
-/// "01: N, K, W, R, two bytes each. Events begin with a four-byte step number, then one byte
-/// each. 7F: number of events, four bytes." The payload has the kind's length.
+/// "01: N, K, W, R, two bytes each", and B. "Events begin with a four-byte step number, then one byte
+/// each. 7F: number of events, four bytes." The payload has a length of the kind's.
 fn meaning(kind: Kind, payload: &[u8]) -> Option<Field> {
-    if let (Kind::Sizes, &[a, b, c, d, e, f, g, h]) = (kind, payload) {
-        let [n, k, w, r] = [[a, b], [c, d], [e, f], [g, h]].map(u16::from_be_bytes);
-        return Some(Field::Sizes(Sizes { n, k, w, r }));
+    if kind == Kind::Sizes {
+        return sizes_of(payload);
     }
     let (number, others) = payload.split_first_chunk::<4>()?;
     let number = u32::from_be_bytes(*number);
     match kind {
         Kind::End => Some(Field::End { count: number }),
         _ => Some(Field::Event { step: number, event: kind.event(others)? }),
+    }
+}
+
+fn sizes_of(payload: &[u8]) -> Option<Field> {
+    let sizes: Vec<u16> = payload.chunks_exact(2).map(|two| u16::from_be_bytes([two[0], two[1]])).collect();
+    match sizes[..] {
+        [n, k, w, r] => Some(Field::Sizes { sizes: Sizes { n, k, w, r, b: 0 }, carries_b: false }),
+        [n, k, w, r, b] => Some(Field::Sizes { sizes: Sizes { n, k, w, r, b }, carries_b: true }),
+        _ => None,
     }
 }
 
@@ -238,7 +291,7 @@ impl<'a> Reader<'a> {
         let field = self.read(rest).map_err(refused)?;
         self.offset += field.bytes().len();
         match field {
-            Field::Sizes(_) => self.sized = true,
+            Field::Sizes { .. } => self.sized = true,
             Field::Event { step, .. } => {
                 self.last_step = step;
                 self.events += 1;
@@ -254,7 +307,7 @@ impl<'a> Reader<'a> {
         let (kind, payload) = split(rest, |kind| self.may_stand(kind))?;
         let field = meaning(kind, payload).ok_or(8)?;
         match field {
-            Field::Sizes(sizes) if !(self.takes)(sizes) => Err(1),
+            Field::Sizes { sizes, .. } if !(self.takes)(sizes) => Err(1),
             Field::Event { step, .. } if !self.follows(step) => Err(10),
             Field::End { count } if count != self.count() => Err(12),
             _ => Ok(field),
@@ -292,20 +345,25 @@ fn nothing_after_the_end(rest: &[u8]) -> Result<Option<Field>, u8> {
     }
 }
 
-/// The largest sizes of `replay`: "N up to 64, K up to 4, W up to 4, R up to 8".
-pub const LARGEST: Sizes = Sizes { n: 64, k: 4, w: 4, r: 8 };
+/// The largest sizes of `replay`: "N up to 64, K up to 4, W up to 4, R up to 8", "B up to 8".
+pub const LARGEST: Sizes = Sizes { n: 64, k: 4, w: 4, r: 8, b: 8 };
 
-/// "it takes N up to 64, K up to 4, W up to 4, R up to 8, and answers 1 beyond."
+/// "it takes N up to 64, K up to 4, W up to 4, R up to 8, and answers 1 beyond." "`replay` takes B up
+/// to 8" (document 02, request 5).
 pub fn replay_takes(sizes: Sizes) -> bool {
     within(LARGEST, sizes)
 }
 
-/// "N records 1..1024, K links in each 1..8, W workers 1..8, R registers per worker 1..16."
+/// The largest sizes of all.
+pub const LARGEST_OF_ALL: Sizes = Sizes { n: 1024, k: 8, w: 8, r: 16, b: 16 };
+
+/// "N records 1..1024, K links in each 1..8, W workers 1..8, R registers per worker 1..16." "B
+/// entries, 0 to 16."
 pub fn in_range(sizes: Sizes) -> bool {
-    within(Sizes { n: 1024, k: 8, w: 8, r: 16 }, sizes)
+    within(LARGEST_OF_ALL, sizes)
 }
 
 fn within(most: Sizes, sizes: Sizes) -> bool {
     let pairs = [(sizes.n, most.n), (sizes.k, most.k), (sizes.w, most.w), (sizes.r, most.r)];
-    pairs.into_iter().all(|(size, largest)| (1..=largest).contains(&size))
+    pairs.into_iter().all(|(size, largest)| (1..=largest).contains(&size)) && sizes.b <= most.b
 }

@@ -1,5 +1,6 @@
-//! "Worker events" of document 01, with document 02's choice of the record that is made. Each is
-//! called only where `event` refuses nothing, and gives back the value of its answer.
+//! "Worker events" of document 01, with document 02's choice of the record that is made and its two
+//! events of the board. Each is called only where `event` refuses nothing, and gives back the value of
+//! its answer.
 
 use crate::pool::{Entry, Link, Pool, Record};
 
@@ -41,17 +42,36 @@ pub fn drop(pool: &mut Pool, w: usize, r: usize) -> Option<Record> {
 
 /// "load w r q f: register r takes link f of the record in q. Answer: that value."
 pub fn load(pool: &mut Pool, w: usize, r: usize, q: usize, f: usize) -> Option<Record> {
-    let of = pool.workers[w].registers[q]?;
-    let value = pool.value(Link { of, f });
+    let record = pool.workers[w].registers[q]?;
+    take(pool, w, r, Link::Of { record, f })
+}
+
+/// "look w r e .., with the answers .. of load" (document 02, request 5).
+pub fn look(pool: &mut Pool, w: usize, r: usize, entry: usize) -> Option<Record> {
+    take(pool, w, r, Link::Board { entry })
+}
+
+/// "register r takes [the link]. Answer: that value."
+fn take(pool: &mut Pool, w: usize, r: usize, link: Link) -> Option<Record> {
+    let value = pool.value(link);
     pool.workers[w].registers[r] = value;
     value
 }
 
-/// "store w q f r: [log the first overwritten value]; the link takes what r holds (none is
-/// allowed); [snoop]. Answer: the value overwritten."
+/// "store w q f r", into link f of the record in q.
 pub fn store(pool: &mut Pool, w: usize, q: usize, f: usize, r: usize) -> Option<Record> {
-    let of = pool.workers[w].registers[q]?;
-    let link = Link { of, f };
+    let record = pool.workers[w].registers[q]?;
+    put(pool, w, Link::Of { record, f }, r)
+}
+
+/// "post w e r .., with the answers and the barrier of .. store" (document 02, request 5).
+pub fn post(pool: &mut Pool, w: usize, entry: usize, r: usize) -> Option<Record> {
+    put(pool, w, Link::Board { entry }, r)
+}
+
+/// "[log the first overwritten value]; the link takes what r holds (none is allowed); [snoop].
+/// Answer: the value overwritten."
+fn put(pool: &mut Pool, w: usize, link: Link, r: usize) -> Option<Record> {
     let stored = pool.workers[w].registers[r];
     let overwritten = pool.value(link);
     log_first_overwritten(pool, w, link);
@@ -88,7 +108,7 @@ mod tests {
     #[test]
     #[should_panic(expected = "a store must log, and the log of worker 0 has S entries")]
     fn a_full_log_stops_it() {
-        let mut pool = Pool::fresh(Sizes { n: 1, k: 1, w: 1, r: 1 });
+        let mut pool = Pool::fresh(Sizes { n: 1, k: 1, w: 1, r: 1, b: 0 });
         make(&mut pool, 0, 0);
         store(&mut pool, 0, 0, 0, 0);
         pool.changed.clear();

@@ -27,6 +27,8 @@ pub fn event_of(event: Event) -> yuyarisun::Event {
         Event::Drop { w, r } => yuyarisun::Event::Drop { w, r },
         Event::Load { w, r, q, f } => yuyarisun::Event::Load { w, r, q, f },
         Event::Store { w, q, f, r } => yuyarisun::Event::Store { w, q, f, r },
+        Event::Look { w, r, e } => yuyarisun::Event::Look { w, r, e },
+        Event::Post { w, e, r } => yuyarisun::Event::Post { w, e, r },
         Event::Collect => yuyarisun::Event::Collect,
     }
 }

@@ -44,20 +44,26 @@ pub fn each(t: &mut Tables) -> [&mut Vec<u16>; 12] {
 }
 
 pub fn sizes_of(sizes: Sizes) -> yuyarisun::Sizes {
-    yuyarisun::Sizes { n: sizes.n, k: sizes.k, w: sizes.w, r: sizes.r }
+    let Sizes { n, k, w, r, b } = sizes;
+    yuyarisun::Sizes { n, k, w, r, b }
 }
 
 pub fn sizes_in(lent: &Lent) -> Sizes {
-    Sizes { n: lent.sizes.n, k: lent.sizes.k, w: lent.sizes.w, r: lent.sizes.r }
+    let yuyarisun::Sizes { n, k, w, r, b } = lent.sizes;
+    Sizes { n, k, w, r, b }
 }
 
 fn number_of(record: Option<Record>) -> u16 {
     record.map_or(0, |record| record.0)
 }
 
-/// "Link f of record a has the number (a-1) x K + f."
+/// "Link f of record a has the number (a-1) x K + f." Board entries are "numbered N x K and up"
+/// (document 02, request 5).
 pub fn link_number(sizes: Sizes, link: Link) -> u16 {
-    (link.of.0 - 1) * sizes.k + link.f as u16
+    match link {
+        Link::Of { record, f } => (record.0 - 1) * sizes.k + f as u16,
+        Link::Board { entry } => sizes.n * sizes.k + entry as u16,
+    }
 }
 
 fn place(record: Record) -> usize {
@@ -150,9 +156,12 @@ fn read_entries(sizes: Sizes, room: &[u16], length: u16) -> Vec<Entry> {
     room.chunks_exact(2).take(length.into()).map(entry).collect()
 }
 
-/// The link of a number; of one past S it is a link that is not there.
-fn link_of(sizes: Sizes, number: u16) -> Link {
-    Link { of: Record((number / sizes.k).saturating_add(1)), f: usize::from(number % sizes.k) }
+/// The link of a number; of one past S it is a board entry that is not there.
+pub fn link_of(sizes: Sizes, number: u16) -> Link {
+    match number.checked_sub(sizes.n * sizes.k) {
+        Some(entry) => Link::Board { entry: entry.into() },
+        None => Link::Of { record: Record(number / sizes.k + 1), f: usize::from(number % sizes.k) },
+    }
 }
 
 /// The clauses of "A sound pool" that tables of the right lengths break.

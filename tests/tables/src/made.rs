@@ -10,9 +10,9 @@ use second::reach::two_workers_share;
 use second::sound::{self, counted_for};
 
 use crate::both::Both;
-use crate::lie::{read, written};
-use crate::reached::Reached;
-use crate::runs::{any_event, choose_sizes};
+use crate::lie::{link_number, link_of, read, written};
+use crate::reached::{Reached, KINDS};
+use crate::runs::{any_event, choose_sizes, COLLECT};
 
 pub const SHARED: &str = "a pool in which two workers reach one record";
 
@@ -32,7 +32,7 @@ pub fn any_record(sizes: Sizes, filled: usize, random: &mut Random) -> Option<Re
 }
 
 pub fn any_link(sizes: Sizes, random: &mut Random) -> Link {
-    Link { of: Record(random.between(1, sizes.n)), f: random.below(sizes.k.into()) }
+    link_of(sizes, random.below(sizes.s()) as u16)
 }
 
 /// Different links, so many of a hundred.
@@ -95,7 +95,7 @@ impl Draft {
     pub fn pool(self, random: &mut Random) -> Pool {
         let mut pool = Pool::fresh(self.sizes);
         let sizes = self.sizes;
-        let there = |link: &Link| link.of.0 <= sizes.n;
+        let there = |link: &Link| usize::from(link_number(sizes, *link)) < sizes.s();
         let standing = self.logs.iter().flatten().chain(uncleared(&self)).map(|entry| entry.link);
         pool.changed = standing.filter(there).collect();
         let filled = random.pick(&[5, 30, 70, 100]);
@@ -145,13 +145,13 @@ pub fn run(seed: u64, reached: &mut Reached) -> Result<(), String> {
         reached.situation(SHARED);
     }
     let both = Both::of(pool).map_err(told)?;
-    for kind in 0..6 {
+    for kind in 0..KINDS.len() {
         both.clone().event(any_event(kind, sizes, &mut random), reached).map_err(told)?;
     }
     let mut both = both;
     let collecting = random.pick(&[20, 50, 100]);
     for _ in 0..if sizes.s() > 1000 { 10 } else { 30 } {
-        let kind = if random.percent(collecting) { 5 } else { random.below(5) };
+        let kind = if random.percent(collecting) { COLLECT } else { random.below(COLLECT) };
         both.event(any_event(kind, sizes, &mut random), reached).map_err(told)?;
         sound::sound(&both.second).map_err(told)?;
     }

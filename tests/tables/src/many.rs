@@ -13,7 +13,7 @@ use crate::lie::{sizes_in, sizes_of, written};
 use crate::made::Draft;
 use crate::reached::{Reached, Upon, AT_THE_LARGEST};
 use crate::room;
-use crate::runs::{any_event, choose_sizes};
+use crate::runs::{any_event, choose_sizes, COLLECT};
 
 const IN_PIECES: &str = "given in two pieces";
 const LAST_STEP: &str = "nothing follows step 4,294,967,295";
@@ -140,10 +140,11 @@ impl Harm {
             (Harm::Extended, _) => parts.push(noise(random)),
             (Harm::TagAltered, Some(part)) => {
                 let tag = random.byte();
-                part[0] = random.pick(&[0x01, 0x7F, 0x10, 0x14, 0x20, 0, tag]);
+                part[0] = random.pick(&[0x01, 0x7F, 0x10, 0x14, 0x15, 0x16, 0x17, 0x20, 0, tag]);
             }
             (Harm::LengthAltered, Some(part)) => {
-                let length = random.pick(&Kind::ALL).length() as u16;
+                let kind = random.pick(&Kind::ALL);
+                let length = random.pick(kind.lengths()) as u16;
                 let length = random.pick(&[length, length << 8, 0, 256 + length]);
                 part[1..3].copy_from_slice(&length.to_be_bytes());
             }
@@ -152,7 +153,7 @@ impl Harm {
             (Harm::EndWithAnotherCount, _) => {
                 parts.insert(any, Field::End { count: last ^ (1 << random.below(32)) }.bytes());
             }
-            (Harm::Sizes, _) => parts.insert(any, Field::Sizes(choose_sizes(random)).bytes()),
+            (Harm::Sizes, _) => parts.insert(any, Field::of_sizes(choose_sizes(random)).bytes()),
             (Harm::Noise, _) => return noise(random),
             (Harm::Nothing, _) => return Vec::new(),
             _ => {}
@@ -184,7 +185,7 @@ fn some(random: &mut Random) -> (Pool, Vec<Event>) {
     };
     let (most, collecting) = (random.pick(&[1, 5, 40]), random.pick(&[10, 40, 80]));
     let events = (0..random.below(most + 1)).map(|_| {
-        let kind = if random.percent(collecting) { 5 } else { random.below(5) };
+        let kind = if random.percent(collecting) { COLLECT } else { random.below(COLLECT) };
         any_event(kind, pool.sizes, random)
     });
     let events = events.collect();

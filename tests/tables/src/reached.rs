@@ -10,17 +10,10 @@ use crate::runs::LARGEST;
 
 pub const AT_THE_LARGEST: &str = "at the largest sizes";
 
-pub const KINDS: [&str; 6] = ["make", "move", "drop", "load", "store", "collect"];
+pub const KINDS: [&str; 8] = ["make", "move", "drop", "load", "store", "look", "post", "collect"];
 
 pub fn kind(event: Event) -> &'static str {
-    match event {
-        Event::Make { .. } => "make",
-        Event::Move { .. } => "move",
-        Event::Drop { .. } => "drop",
-        Event::Load { .. } => "load",
-        Event::Store { .. } => "store",
-        Event::Collect => "collect",
-    }
+    event.kind().name()
 }
 
 /// Which numbers a kind of event is answered with on a sound pool.
@@ -29,6 +22,7 @@ fn numbers(kind: &str) -> &'static [u8] {
         "make" => &[0, 3, 13, 5],
         "move" | "drop" => &[0, 3, 13],
         "load" | "store" => &[0, 3, 13, 14, 4],
+        "look" | "post" => &[0, 3, 13, 14],
         _ => &[0],
     }
 }

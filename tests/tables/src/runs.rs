@@ -5,19 +5,21 @@ use second::habit::Habit;
 use second::maker::{at_the_limits, up_to};
 use second::pool::Sizes;
 use second::random::Random;
+pub use second::trace::LARGEST_OF_ALL as LARGEST;
 
 use crate::both::Both;
-use crate::reached::Reached;
+use crate::reached::{Reached, KINDS};
 
-pub const LARGEST: Sizes = Sizes { n: 1024, k: 8, w: 8, r: 16 };
+/// Which of the kinds of events is the collector's; the workers' are those before it.
+pub const COLLECT: usize = KINDS.len() - 1;
 
 /// Mostly small, for then the same records meet again and again; some in between, a few at the
 /// limits.
 pub fn choose_sizes(random: &mut Random) -> Sizes {
     match random.below(100) {
-        0..=59 => up_to(Sizes { n: 4, k: 3, w: 3, r: 3 }, random),
-        60..=89 => up_to(Sizes { n: 16, k: 8, w: 8, r: 16 }, random),
-        90..=97 => up_to(Sizes { n: 160, k: 4, w: 4, r: 8 }, random),
+        0..=59 => up_to(Sizes { n: 4, k: 3, w: 3, r: 3, b: 3 }, random),
+        60..=89 => up_to(Sizes { n: 16, k: 8, w: 8, r: 16, b: 16 }, random),
+        90..=97 => up_to(Sizes { n: 160, k: 4, w: 4, r: 8, b: 8 }, random),
         _ => at_the_limits(LARGEST, 75, random),
     }
 }
@@ -31,12 +33,15 @@ pub fn any_event(kind: usize, sizes: Sizes, random: &mut Random) -> Event {
         _ => random.below(size.into()) as u8,
     };
     let (w, r, q, f) = (below(sizes.w), below(sizes.r), below(sizes.r), below(sizes.k));
+    let e = below(sizes.b);
     match kind {
         0 => Event::Make { w, r },
         1 => Event::Move { w, r, q },
         2 => Event::Drop { w, r },
         3 => Event::Load { w, r, q, f },
         4 => Event::Store { w, q, f, r },
+        5 => Event::Look { w, r, e },
+        6 => Event::Post { w, e, r },
         _ => Event::Collect,
     }
 }
@@ -60,7 +65,7 @@ pub fn run(seed: u64, reached: &mut Reached) -> Result<(), String> {
                 plans[w].reverse();
             }
             let event = match plans[w].pop() {
-                _ if random.percent(5) => any_event(random.below(5), sizes, &mut random),
+                _ if random.percent(5) => any_event(random.below(COLLECT), sizes, &mut random),
                 Some(event) if !random.percent(rate) => event,
                 _ => Event::Collect,
             };
@@ -72,7 +77,8 @@ pub fn run(seed: u64, reached: &mut Reached) -> Result<(), String> {
 }
 
 /// A run that fills one worker's log and then the history with S entries: every record is made and
-/// every link of it stored to, then a whole cycle, with some stores between the steps.
+/// every link of it stored to, every board entry is posted over, then a whole cycle, with some stores
+/// and posts between the steps.
 pub fn full(sizes: Sizes, seed: u64, reached: &mut Reached) -> Result<(), String> {
     let mut random = Random::new(seed);
     let mut both = Both::fresh(sizes)?;
@@ -92,11 +98,15 @@ pub fn full(sizes: Sizes, seed: u64, reached: &mut Reached) -> Result<(), String
         let r = others(&mut random);
         go(&mut both, Event::Move { w, r, q: 0 })?;
     }
+    for e in 0..sizes.b as u8 {
+        go(&mut both, Event::Post { w, e, r: 0 })?;
+    }
     go(&mut both, Event::Collect)?;
     while both.second.phase != 0 {
         if random.percent(5) {
             let (q, r) = (others(&mut random), others(&mut random));
             go(&mut both, Event::Store { w, q, f: random.below(sizes.k.into()) as u8, r })?;
+            go(&mut both, Event::Post { w, e: random.below(sizes.b.into()) as u8, r: q })?;
         }
         go(&mut both, Event::Collect)?;
     }

@@ -7,7 +7,7 @@ use yuyarisun::{Lent, Refusal};
 use crate::both::{hold, Both};
 use crate::lie::{broken, each, read, sizes_in, written};
 use crate::made::Draft;
-use crate::reached::Reached;
+use crate::reached::{Reached, KINDS};
 use crate::runs::any_event;
 use crate::ways::refused;
 
@@ -67,7 +67,7 @@ pub fn run(seed: u64, reached: &mut Reached) -> Result<(), String> {
     reached.situation(STILL_SOUND);
     let both = Both::of(read(&lent)).map_err(told)?;
     hold(written(&both.second) == lent, || told("reads back otherwise".into()))?;
-    for kind in 0..6 {
+    for kind in 0..KINDS.len() {
         both.clone().event(any_event(kind, sizes, &mut random), reached).map_err(told)?;
     }
     Ok(())

@@ -8,17 +8,19 @@ use second::maker::{make, make_of, Made};
 use second::pool::{Pool, Sizes};
 use second::random::Random;
 use second::replay::replay;
-use second::trace::{replay_takes, well_formed, Field, Reader, Refusal};
+use second::tally::{sizes_fields, SIZES_FIELDS};
+use second::trace::{in_range, replay_takes, well_formed, Field, Reader, Refusal};
 use yuyarisun::{Lent, Replay, Whole};
 
 use crate::both::{answer_of, hold, same};
-use crate::lie::{each, sizes_of, written};
+use crate::lie::{each, sizes_in, sizes_of, written};
 use crate::many::{one, stop_of};
 use crate::reached::{Reached, AT_THE_LARGEST};
 use crate::room;
 use crate::runs::{choose_sizes, LARGEST};
 
 const OTHER_SIZES: &str = "tables of other sizes";
+const OTHER_SPLIT: &str = "tables of another K and B with the same lengths";
 const OTHER_LENGTH: &str = "a table of another length";
 const PRINTED: &str = "printed as the second program prints it";
 
@@ -26,7 +28,8 @@ const PRINTED: &str = "printed as the second program prints it";
 const NUMBERS: [u8; 8] = [0, 1, 7, 8, 9, 10, 11, 12];
 
 pub fn all_words() -> Vec<String> {
-    let others = room::WORDS.into_iter().chain([OTHER_SIZES, OTHER_LENGTH, PRINTED, AT_THE_LARGEST]);
+    let others = [OTHER_SIZES, OTHER_SPLIT, OTHER_LENGTH, PRINTED, AT_THE_LARGEST];
+    let others = room::WORDS.into_iter().chain(others).chain(SIZES_FIELDS);
     NUMBERS.map(answered).into_iter().chain(others.map(String::from)).collect()
 }
 
@@ -46,7 +49,11 @@ fn replayed(bytes: &[u8], takes: &dyn Fn(Sizes) -> bool, reached: &mut Reached) 
     let (mut answers, mut pool) = (Vec::new(), None);
     let stop = loop {
         match (reader.next_field(), &mut pool) {
-            (Ok(Some(Field::Sizes(sizes))), _) => pool = Some(Pool::fresh(sizes)),
+            (Ok(Some(Field::Sizes { sizes, carries_b })), _) => {
+                let said = SIZES_FIELDS.into_iter().zip(sizes_fields(sizes, carries_b));
+                said.filter(|(_, came)| *came).for_each(|(words, _)| reached.situation(words));
+                pool = Some(Pool::fresh(sizes));
+            }
             (Ok(Some(Field::Event { event, .. })), Some(pool)) => answers.push(one(pool, event, reached)),
             // The end field. No event comes before the sizes.
             (Ok(Some(_)), _) => {}
@@ -57,9 +64,19 @@ fn replayed(bytes: &[u8], takes: &dyn Fn(Sizes) -> bool, reached: &mut Reached) 
     Expected { answers, pool, stop }
 }
 
-fn in_range(sizes: Sizes) -> bool {
-    let pairs = [(sizes.n, LARGEST.n), (sizes.k, LARGEST.k), (sizes.w, LARGEST.w), (sizes.r, LARGEST.r)];
-    pairs.into_iter().all(|(size, largest)| (1..=largest).contains(&size))
+/// The lengths of the tables fix N, W, R and S, and leave K and B open.
+fn same_lengths(one: Sizes, other: Sizes) -> bool {
+    [one.n, one.w, one.r] == [other.n, other.w, other.r] && one.s() == other.s()
+}
+
+/// Another K and B for as many links, if there are any.
+fn split_otherwise(sizes: Sizes, random: &mut Random) -> Option<Sizes> {
+    let others = (1..=LARGEST.k).filter_map(|k| {
+        let b = sizes.s().checked_sub(usize::from(sizes.n) * usize::from(k))?;
+        Some(Sizes { k, b: u16::try_from(b).ok()?, ..sizes })
+    });
+    let others: Vec<Sizes> = others.filter(|other| in_range(*other) && *other != sizes).collect();
+    (!others.is_empty()).then(|| random.pick(&others))
 }
 
 /// At the program's sizes, or at any others.
@@ -88,10 +105,12 @@ pub fn run(seed: u64, reached: &mut Reached) -> Result<(), String> {
     let mut random = Random::new(seed);
     let bytes = made(seed, &mut random).trace;
     let own = match well_formed(&bytes) {
-        Some(Field::Sizes(sizes)) if in_range(sizes) => Some(sizes),
+        Some(Field::Sizes { sizes, .. }) if in_range(sizes) => Some(sizes),
         _ => None,
     };
-    let sizes = own.filter(|_| random.percent(95)).unwrap_or_else(|| choose_sizes(&mut random));
+    let otherwise = own.filter(|_| random.percent(10)).and_then(|own| split_otherwise(own, &mut random));
+    let sizes = otherwise.or(own).filter(|_| random.percent(95));
+    let sizes = sizes.unwrap_or_else(|| choose_sizes(&mut random));
     let mut lent = spoilt(sizes, &mut random);
     let exact = random.percent(97);
     if !exact {
@@ -99,16 +118,20 @@ pub fn run(seed: u64, reached: &mut Reached) -> Result<(), String> {
         let table = each(&mut lent.tables).into_iter().nth(which).expect("there are twelve tables");
         table.resize(table.len() + 1 - 2 * random.below(2), 0);
     }
-    // They are not looked at.
+    // These are not looked at.
     if random.percent(10) {
         lent.sizes = sizes_of(choose_sizes(&mut random));
     }
     let told = |told: String| format!("{sizes:?}, {} bytes: {told}", bytes.len());
 
-    let expected = replayed(&bytes, &|other| exact && other == sizes, reached);
+    let takes = |own| exact && in_range(own) && same_lengths(own, sizes);
+    let expected = replayed(&bytes, &takes, reached);
     lends(lent, &bytes, &expected, &mut random, reached).map_err(told)?;
     let replayed = yuyarisun::replay(&bytes);
-    if own.is_some_and(|own| !exact || own != sizes) {
+    if own.is_some_and(|own| takes(own) && own != sizes) {
+        reached.situation(OTHER_SPLIT);
+    }
+    if own.is_some_and(|own| !takes(own)) {
         reached.situation(if exact { OTHER_SIZES } else { OTHER_LENGTH });
         let expected = self::replayed(&bytes, &in_range, &mut Reached::default());
         owns(&replayed, &expected).map_err(told)?;
@@ -144,7 +167,8 @@ fn lends(
     room::same(&room::put(empty, &expected.answers), &room)?;
     let after = expected.pool.as_ref().map_or_else(|| before.clone(), written);
     same("trace", &after, (&lent.tables, lent.collector))?;
-    hold(lent.sizes == before.sizes, || "the sizes are others".into())?;
+    let sizes = expected.pool.as_ref().map_or(before.sizes, |pool| sizes_of(pool.sizes));
+    hold(lent.sizes == sizes, || format!("the sizes are {:?} and should be {sizes:?}", lent.sizes))?;
     reached.situation(&answered(expected.stop.map_or(0, |stop| stop.number)));
     reached.situation(room_words);
     if let Some(pool) = &expected.pool {
@@ -171,8 +195,7 @@ fn owns(found: &Replay, expected: &Expected) -> Result<(), String> {
 /// beginning.
 pub fn refused(lent: &mut Lent) -> Result<(), String> {
     let before = lent.clone();
-    let yuyarisun::Sizes { n, k, w, r } = lent.sizes;
-    let fields = [Field::Sizes(Sizes { n, k, w, r }), Field::End { count: 0 }];
+    let fields = [Field::of_sizes(sizes_in(lent)), Field::End { count: 0 }];
     let bytes: Vec<u8> = fields.iter().flat_map(Field::bytes).collect();
     let (mut room, expected) = ([1, 2, 3], stop_of(Refusal { number: 1, offset: 0 }, 0));
     let found = lent.trace(&bytes, &mut room);

@@ -1,7 +1,7 @@
 //! Pools that break one clause of "A sound pool" and no other, in each way in which it can be
 //! broken. Every event on them is answered 2, and they stay as they were.
 
-use second::pool::{Entry, Link, Pool, Record, Sizes};
+use second::pool::{Entry, Link, Pool, Record};
 use second::random::Random;
 use second::sound::*;
 use yuyarisun::{Lent, Pool as Owned, Refusal};
@@ -10,7 +10,7 @@ use crate::both::{event_of, hold, same};
 use crate::lie::{broken, last_made_place, sizes_in, written, MARKS, ZEROS};
 use crate::made::{any_link, any_record, count_anew, uncleared, Draft};
 use crate::many;
-use crate::reached::{kind, Reached, AT_THE_LARGEST};
+use crate::reached::{kind, Reached, AT_THE_LARGEST, KINDS};
 use crate::runs::{any_event, choose_sizes};
 
 /// How a clause is broken, and how to make such a pool; `None` if what was thrown does not lend
@@ -107,7 +107,7 @@ pub fn refused(
 ) -> Result<(), String> {
     let before = lent.clone();
     let sizes = sizes_in(lent);
-    for number in 0..6 {
+    for number in 0..KINDS.len() {
         let event = any_event(number, sizes, random);
         let answer = lent.event(event_of(event));
         hold(answer == Err(refusal), || format!("{}: answered {answer:?} and not {refusal:?}", kind(event)))?;
@@ -237,11 +237,11 @@ fn old_above_n(list: List, random: &mut Random) -> Option<Lent> {
 /// An entry's link is put into the tables as they lie: a number past S.
 fn link_past_s(list: List, random: &mut Random) -> Option<Lent> {
     let mut draft = Draft::thrown(random);
-    let (n, s) = (draft.sizes.n, draft.sizes.s());
+    let (sizes, s) = (draft.sizes, draft.sizes.s());
     let entries = list(&mut draft, random);
     let at = random.below(entries.len() + 1);
-    let none = Link { of: Record(n + 1), f: 0 };
-    entries.insert(at, Entry { link: none, old: any_record(Sizes { n, k: 1, w: 1, r: 1 }, 50, random) });
+    let none = Link::Board { entry: sizes.b.into() };
+    entries.insert(at, Entry { link: none, old: any_record(sizes, 50, random) });
     if entries.len() > s {
         entries.remove((at + 1) % (s + 1));
     }

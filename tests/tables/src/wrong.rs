@@ -12,14 +12,15 @@ use crate::runs::{choose_sizes, LARGEST};
 use crate::traces;
 use crate::ways::refused;
 
-const SIZES: [&str; 4] = ["N", "K", "W", "R"];
+const SIZES: [&str; 5] = ["N", "K", "W", "R", "B"];
 
 pub fn all_words() -> Vec<String> {
     let lengths =
         TABLES.iter().flat_map(|table| ["too short", "too long"].map(|how| format!("{table} {how}")));
     let sizes = SIZES
         .iter()
-        .flat_map(|size| ["0", "one too large", "far too large"].map(|how| format!("{size} is {how}")));
+        .flat_map(|size| ["0", "one too large", "far too large"].map(|how| format!("{size} is {how}")))
+        .filter(|words| words != "B is 0");
     lengths.chain(sizes).collect()
 }
 
@@ -55,23 +56,24 @@ fn wrong_length(random: &mut Random) -> (Lent, String) {
 /// they would ask for if 16 bits were all there is.
 fn wrong_size(random: &mut Random) -> (Lent, String) {
     let mut lent = some_pool(random);
-    let which = random.below(4);
-    let most = [LARGEST.n, LARGEST.k, LARGEST.w, LARGEST.r][which];
+    let which = random.below(SIZES.len());
+    let most = [LARGEST.n, LARGEST.k, LARGEST.w, LARGEST.r, LARGEST.b][which];
     let (size, how) = match random.below(3) {
-        0 => (0, "0"),
+        // There may be no board.
+        0 if SIZES[which] != "B" => (0, "0"),
         1 => (most + 1, "one too large"),
         _ => (far_above(most, random), "far too large"),
     };
     let s = &mut lent.sizes;
-    *[&mut s.n, &mut s.k, &mut s.w, &mut s.r][which] = size;
+    *[&mut s.n, &mut s.k, &mut s.w, &mut s.r, &mut s.b][which] = size;
     let sizes = lent.sizes;
     match random.below(3) {
         0 => {}
         1 if usize::from(sizes.w) * sizes.links() < 1 << 18 => lent.tables = Tables::zeros(sizes),
         _ => {
             let wrapped = |a: u16, b: u16| usize::from(a.wrapping_mul(b));
-            let mut tables = Tables::zeros(yuyarisun::Sizes { n: sizes.n, k: 0, w: sizes.w, r: 0 });
-            let s = wrapped(sizes.n, sizes.k);
+            let mut tables = Tables::zeros(yuyarisun::Sizes { n: sizes.n, k: 0, w: sizes.w, r: 0, b: 0 });
+            let s = (wrapped(sizes.n, sizes.k) + usize::from(sizes.b)) % 65_536;
             tables.values.resize(s, 0);
             tables.changed.resize(s, 0);
             tables.history.resize(2 * s % 65_536, 0);
@@ -116,8 +118,10 @@ pub fn limits() -> Result<(), String> {
         for k in all([1, LARGEST.k]) {
             for w in all([1, LARGEST.w]) {
                 for r in all([1, LARGEST.r]) {
-                    let sizes = Sizes { n, k, w, r };
-                    crate::both::Both::fresh(sizes).map_err(|told| format!("{sizes:?}: {told}"))?;
+                    for b in all([0, LARGEST.b]) {
+                        let sizes = Sizes { n, k, w, r, b };
+                        crate::both::Both::fresh(sizes).map_err(|told| format!("{sizes:?}: {told}"))?;
+                    }
                 }
             }
         }

@@ -82,9 +82,9 @@ fn steps(part: &[u8]) -> Vec<u32> {
     steps
 }
 
-/// What stands at the beginning of some bytes: a field of at most 11 bytes, or what is none.
+/// What stands at the beginning of some bytes: a field of at most 13 bytes, or what is none.
 fn field_at(rest: &[u8]) -> String {
-    let shown = text::show(&rest[..rest.len().min(11)]);
+    let shown = text::show(&rest[..rest.len().min(13)]);
     match shown.lines().next().and_then(|line| line.split('#').next()) {
         Some(line) => format!("`{}`", line.trim_end()),
         None => "where it ends".into(),

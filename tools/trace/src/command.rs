@@ -43,12 +43,15 @@ usage: trace write [FILE]
 Turns a trace in the text form into bytes. One field on a line; # begins a comment; numbers are
 decimal; a line that can't be understood is named, and then nothing is written.
 
-    sizes N K W R         N records, K links in each, W workers, R registers per worker
+    sizes N K W R [B]     N records, K links in each, W workers, R registers per worker, B board
+                          entries; without B the field has length 8, which says that there are none
     make w r              worker w makes a record, register r holds it
     move w r q            register r takes what q holds
     drop w r              register r becomes none
     load w r q f          register r takes link f of the record in q
     store w q f r         link f of the record in q takes what r holds
+    look w r e            register r takes what board entry e holds
+    post w e r            board entry e takes what register r holds
     collect               one step of the collector
     times COUNT EVENT     the event so many times
     end                   the end field

@@ -22,7 +22,7 @@ pub fn split(trace: &[u8]) -> Result<Vec<Part>, Refusal> {
         let field = reader.next_field()?;
         let bytes = &trace[start..reader.at().0];
         match field {
-            Some(Field::Sizes(sizes)) => {
+            Some(Field::Sizes { sizes, .. }) => {
                 let workers = (0..sizes.w).map(|w| format!("worker-{w}"));
                 let names = workers.chain(["collector".into()]);
                 parts = names.map(|name| Part { name, bytes: bytes.to_vec() }).collect::<Vec<_>>();
@@ -62,12 +62,12 @@ mod tests {
 
     #[test]
     fn each_event_goes_to_its_worker() {
-        let text = "sizes 2 1 2 1\nmake 1 0\nmake 0 0\ncollect\ndrop 1 0\nmake 2 0\nend";
+        let text = "sizes 2 1 2 1 1\nmake 1 0\npost 1 0 0\ncollect\nlook 0 0 0\nmake 2 0\nend";
         let parts = split(&write(text).unwrap()).unwrap();
         let expected = [
-            ("worker-0", "sizes 2 1 2 1\n2 make 0 0\nend 1"),
-            ("worker-1", "sizes 2 1 2 1\n1 make 1 0\n4 drop 1 0\nend 2"),
-            ("collector", "sizes 2 1 2 1\n3 collect\n5 make 2 0\nend 2"),
+            ("worker-0", "sizes 2 1 2 1 1\n4 look 0 0 0\nend 1"),
+            ("worker-1", "sizes 2 1 2 1 1\n1 make 1 0\n2 post 1 0 0\nend 2"),
+            ("collector", "sizes 2 1 2 1 1\n3 collect\n5 make 2 0\nend 2"),
         ];
         let expected = expected.map(|(name, text)| Part { name: name.into(), bytes: write(text).unwrap() });
         assert_eq!(parts, expected);
@@ -93,9 +93,11 @@ mod tests {
 
     #[test]
     fn the_largest_sizes_make_nine_parts() {
-        let trace = write("sizes 1024 8 8 16\nmake 7 0\nend").unwrap();
+        let trace = write("sizes 1024 8 8 16 16\nmake 7 0\nend").unwrap();
         assert_eq!(split(&trace).unwrap().len(), 9);
-        let beyond = write("sizes 1024 8 9 16\nend").unwrap();
-        assert_eq!(split(&beyond), Err(Refusal { number: 1, offset: 0 }));
+        for beyond in ["sizes 1024 8 9 16 16\nend", "sizes 1024 8 8 16 17\nend"] {
+            let refused = split(&write(beyond).unwrap());
+            assert_eq!(refused, Err(Refusal { number: 1, offset: 0 }));
+        }
     }
 }

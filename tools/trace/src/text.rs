@@ -1,12 +1,14 @@
 //! The text form of a trace: one field on a line, `#` begins a comment.
 //!
 //! ```text
-//! sizes N K W R
+//! sizes N K W R [B]
 //! [STEP] make w r
 //! [STEP] move w r q
 //! [STEP] drop w r
 //! [STEP] load w r q f
 //! [STEP] store w q f r
+//! [STEP] look w r e
+//! [STEP] post w e r
 //! [STEP] collect
 //! times COUNT EVENT        the event without a step number, COUNT times
 //! end [COUNT]
@@ -14,8 +16,9 @@
 //! ```
 //!
 //! A step number left out is the previous one plus one (the first is 1), a count left out is the
-//! last step number. `show` leaves nothing out; it writes as `raw` what begins no field of a known
-//! tag, that tag's length and a whole payload, and all that follows such a place.
+//! last step number. With B left out the sizes field has length 8, which says B = 0, else length 10.
+//! `show` leaves nothing out but a B that the field does not carry; it writes as `raw` what begins no
+//! field of a known tag, a length of that tag's and a whole payload, and all that follows such a place.
 
 use std::fmt::Write;
 use std::path::Path;
@@ -27,11 +30,13 @@ use second::trace::{well_formed, Field, Kind};
 /// The word for a kind of field, and the numbers that it takes.
 fn words(kind: Kind) -> (&'static str, &'static str) {
     let numbers = match kind {
-        Kind::Sizes => "N K W R",
+        Kind::Sizes => "N K W R [B]",
         Kind::Make | Kind::Drop => "w r",
         Kind::Move => "w r q",
         Kind::Load => "w r q f",
         Kind::Store => "w q f r",
+        Kind::Look => "w r e",
+        Kind::Post => "w e r",
         Kind::Collect => "",
         Kind::End => "[COUNT]",
     };
@@ -61,7 +66,12 @@ fn add_line(text: &mut String, line: &str, offset: usize) {
 
 fn line(field: &Field) -> String {
     match field {
-        Field::Sizes(Sizes { n, k, w, r }) => format!("sizes {n} {k} {w} {r}"),
+        Field::Sizes { sizes: Sizes { n, k, w, r, .. }, carries_b: false } => {
+            format!("sizes {n} {k} {w} {r}")
+        }
+        Field::Sizes { sizes: Sizes { n, k, w, r, b }, carries_b: true } => {
+            format!("sizes {n} {k} {w} {r} {b}")
+        }
         Field::End { count } => format!("end {count}"),
         Field::Event { step, event } => {
             let numbers: String = event.numbers().iter().map(|number| format!(" {number}")).collect();
@@ -143,11 +153,13 @@ impl Writer {
     }
 
     fn sizes(&mut self, sizes: &[&str]) -> Result<(), String> {
-        let &[n, k, w, r] = sizes else {
-            return Err(other_numbers(Kind::Sizes, sizes.len()));
+        let numbers: Vec<u16> = sizes.iter().map(|word| number(word)).collect::<Result<_, _>>()?;
+        let (sizes, carries_b) = match numbers[..] {
+            [n, k, w, r] => (Sizes { n, k, w, r, b: 0 }, false),
+            [n, k, w, r, b] => (Sizes { n, k, w, r, b }, true),
+            _ => return Err(other_numbers(Kind::Sizes, numbers.len())),
         };
-        let (n, k, w, r) = (number(n)?, number(k)?, number(w)?, number(r)?);
-        self.bytes.extend(Field::Sizes(Sizes { n, k, w, r }).bytes());
+        self.bytes.extend(Field::Sizes { sizes, carries_b }.bytes());
         Ok(())
     }
 
@@ -173,6 +185,9 @@ impl Writer {
     }
 }
 
+/// The words for the events.
+const EVENTS: &str = "make, move, drop, load, store, look, post or collect";
+
 /// The kind of the event that these words begin.
 fn event_kind(event: &[&str]) -> Result<Kind, String> {
     let Some(word) = event.first() else {
@@ -181,7 +196,7 @@ fn event_kind(event: &[&str]) -> Result<Kind, String> {
     let is_event = |kind: &Kind| ![Kind::Sizes, Kind::End].contains(kind);
     let mut kinds = Kind::ALL.into_iter().filter(is_event);
     let found = kinds.find(|kind| words(*kind).0 == *word);
-    found.ok_or_else(|| format!("`{word}` is no event: make, move, drop, load, store or collect"))
+    found.ok_or_else(|| format!("`{word}` is no event: {EVENTS}"))
 }
 
 fn other_numbers(kind: Kind, given: usize) -> String {
@@ -253,19 +268,34 @@ mod tests {
     }
 
     #[test]
+    fn the_sizes_come_back_in_either_length() {
+        for (said, bytes) in [
+            ("sizes 1 2 3 4", &[1, 0, 8, 0, 1, 0, 2, 0, 3, 0, 4][..]),
+            ("sizes 1 2 3 4 0", &[1, 0, 10, 0, 1, 0, 2, 0, 3, 0, 4, 0, 0]),
+            ("sizes 1 2 3 4 258", &[1, 0, 10, 0, 1, 0, 2, 0, 3, 0, 4, 1, 2]),
+        ] {
+            assert_eq!(write(said).as_deref(), Ok(bytes));
+            assert_eq!(show(bytes), format!("{said:<28} # at 0\n"));
+        }
+        assert!(show(&[1, 0, 9, 0, 1, 0, 2, 0, 3, 0, 4, 0]).starts_with("raw "));
+    }
+
+    #[test]
     fn a_line_that_means_nothing_is_named() {
         for (line, wrong) in [
-            ("mak 0 0", "`mak` is no event: make, move, drop, load, store or collect"),
+            ("mak 0 0", "`mak` is no event: make, move, drop, load, store, look, post or collect"),
             ("make 0", "make takes the numbers w r, and here are 1"),
             ("make 0 256", "`256` is no number from 0 to 255"),
             ("make 0 x", "`x` is no number from 0 to 255"),
             ("collect 1", "collect takes no numbers, and here are 1"),
-            ("sizes 1 1 1", "sizes takes the numbers N K W R, and here are 3"),
+            ("post 0 0", "post takes the numbers w e r, and here are 2"),
+            ("sizes 1 1 1", "sizes takes the numbers N K W R [B], and here are 3"),
+            ("sizes 1 1 1 1 1 1", "sizes takes the numbers N K W R [B], and here are 6"),
             ("sizes 65536 1 1 1", "`65536` is no number from 0 to 65535"),
             ("end 1 2", "end takes one count at most"),
             ("times", "times takes a count and an event"),
             ("times 3", "here an event is missing"),
-            ("times 3 end", "`end` is no event: make, move, drop, load, store or collect"),
+            ("times 3 end", "`end` is no event: make, move, drop, load, store, look, post or collect"),
             ("raw 123", "`123` is no bytes in hexadecimal, two digits for each"),
             ("7", "here an event is missing"),
             ("4294967296 collect", "`4294967296` is no number from 0 to 4294967295"),

@@ -40,6 +40,18 @@ enum-known-e-5 c = search needs
 stores-requires : tie.Need-stores-requires
 stores-requires c κs = let start = c .before .before .before .before .before .before .before .before .before .before .before .before .before .before .before .before .before .before .before .before .before .before in (here start, start .args .c, start .pre)
 
+enum-known-e-6 : tie.Need-enum-known-e-6
+enum-known-e-6 c = search needs
+
+looks-requires : tie.Need-looks-requires
+looks-requires c κs = let start = c .before .before .before .before .before .before .before .before .before .before .before .before .before .before .before .before .before in (here start, start .args .c, start .pre)
+
+enum-known-e-7 : tie.Need-enum-known-e-7
+enum-known-e-7 c = search needs
+
+posts-requires : tie.Need-posts-requires
+posts-requires c κs = let start = c .before .before .before .before .before .before .before .before .before .before .before .before .before .before .before .before .before .before .before .before .before .before in (here start, start .args .c, start .pre)
+
 enum-told : tie.Need-enum-told
 enum-told c = search needs
 
@@ -117,22 +129,27 @@ same-length-15 : tie.Need-same-length-15
 same-length-15 c = search needs
 
 same-length-16 : tie.Need-same-length-16
-same-length-16 c = c .before .before .before .before .before .before .before .before .before .before .before .before .before .before .before .before .before .before .before .before .before .before .before .before .collects .kept .1 .1 .0
+same-length-16 c = search needs
+
+returns-6 : tie.Need-returns-6
+returns-6 c =
+    let start = c .before .before .before .before .before .before .before .before .before .before .before .before .before .before .before .before .before .before .before .before in
+    rw (c .before .before .before .before .before .before .e6 .given .1) (c .before .before .looks .ensures (here start) (start .args .c) (start .pre))
 
 same-length-17 : tie.Need-same-length-17
-same-length-17 c = c .before .before .before .before .before .before .before .before .before .before .before .before .before .before .before .before .before .before .before .before .before .before .before .before .collects .kept .1 .1 .1 .0
+same-length-17 c = search needs
 
 same-length-18 : tie.Need-same-length-18
-same-length-18 c = c .before .before .before .before .before .before .before .before .before .before .before .before .before .before .before .before .before .before .before .before .before .before .before .before .collects .kept .1 .1 .1 .1 .0
+same-length-18 c = search needs
 
 same-length-19 : tie.Need-same-length-19
-same-length-19 c = c .before .before .before .before .before .before .before .before .before .before .before .before .before .before .before .before .before .before .before .before .before .before .before .before .collects .kept .1 .1 .1 .1 .1 .0
+same-length-19 c = search needs
 
 same-length-20 : tie.Need-same-length-20
-same-length-20 c = c .before .before .before .before .before .before .before .before .before .before .before .before .before .before .before .before .before .before .before .before .before .before .before .before .collects .kept .1 .1 .1 .1 .1 .1 .0
+same-length-20 c = search needs
 
 same-length-21 : tie.Need-same-length-21
-same-length-21 c = c .before .before .before .before .before .before .before .before .before .before .before .before .before .before .before .before .before .before .before .before .before .before .before .before .collects .kept .1 .1 .1 .1 .1 .1 .1 .0
+same-length-21 c = search needs
 
 same-length-22 : tie.Need-same-length-22
 same-length-22 c = search needs
@@ -140,17 +157,49 @@ same-length-22 c = search needs
 same-length-23 : tie.Need-same-length-23
 same-length-23 c = search needs
 
+returns-7 : tie.Need-returns-7
+returns-7 c =
+    let start = c .before .before .before .before .before .before .before .before .before .before .before .before .before .before .before .before .before .before .before .before .before .before .before .before .before .before .before .before .before .before .before .before .before in
+    rw (c .before .before .before .before .before .before .before .before .before .before .before .before .before .before .before .before .before .before .before .e7 .given .1) (c .before .before .before .before .before .before .before .before .before .before .posts .ensures (here start) (start .args .c) (start .pre))
+
 same-length-24 : tie.Need-same-length-24
-same-length-24 c = search needs
+same-length-24 c = c .before .before .before .before .before .before .before .before .before .before .before .before .before .before .before .before .before .before .before .before .before .before .before .used2 .given
 
 same-length-25 : tie.Need-same-length-25
-same-length-25 c = search needs
+same-length-25 c = c .before .before .before .before .before .before .before .before .before .before .before .before .before .before .before .before .before .before .before .before .before .counts .given
 
 same-length-26 : tie.Need-same-length-26
-same-length-26 c = search needs
+same-length-26 c = c .before .before .before .before .before .before .before .before .before .before .before .before .before .before .before .before .before .before .before .held3 .given
 
-returns-6 : tie.Need-returns-6
-returns-6 c = rw (c .before .before .before .before .before .before .before .before .before .before .before .before .before .before .before .before .before .before .before .before .before .before .before .before .before .before .before .before .before .before .before .before .before .before .before .before .before .enum-told .given .1) (c .before .before .before .before .before .before .before .before .before .before .before .before .before .before .before .before .before .before .before .before .before .before .before .before .collects .ensures)
+same-length-27 : tie.Need-same-length-27
+same-length-27 c = c .before .before .before .before .before .before .before .before .before .before .before .before .before .before .before .before .before .candidates .given
+
+same-length-28 : tie.Need-same-length-28
+same-length-28 c = c .before .before .before .before .before .before .before .before .before .before .before .before .before .before .before .makers2 .given
+
+same-length-29 : tie.Need-same-length-29
+same-length-29 c = c .before .before .before .before .before .before .before .before .before .before .before .before .before .values3 .given
+
+same-length-30 : tie.Need-same-length-30
+same-length-30 c = c .before .before .before .before .before .before .before .before .before .before .before .changed3 .given
+
+same-length-31 : tie.Need-same-length-31
+same-length-31 c = c .before .before .before .before .before .before .before .before .before .registers6 .given
+
+same-length-32 : tie.Need-same-length-32
+same-length-32 c = c .before .before .before .before .before .before .before .snoops .given
+
+same-length-33 : tie.Need-same-length-33
+same-length-33 c = c .before .before .before .before .before .logs3 .given
+
+same-length-34 : tie.Need-same-length-34
+same-length-34 c = c .before .before .before .history .given
+
+same-length-35 : tie.Need-same-length-35
+same-length-35 c = c .before .lengths3 .given
+
+returns-8 : tie.Need-returns-8
+returns-8 c = rw (c .before .before .before .before .before .before .before .before .before .before .before .before .before .before .before .before .before .before .before .before .before .before .before .before .before .before .before .before .before .before .before .before .before .before .before .before .before .enum-told .given .1) (c .before .before .before .before .before .before .before .before .before .before .before .before .before .before .before .before .before .before .before .before .before .before .before .before .collects .ensures)
 
 pub event-known-spec : {M : Type 1} → statement M
 event-known-spec =
@@ -166,6 +215,10 @@ event-known-spec =
     loads-requires
     enum-known-e-5
     stores-requires
+    enum-known-e-6
+    looks-requires
+    enum-known-e-7
+    posts-requires
     enum-told
     collects-requires
     same-length
@@ -189,6 +242,7 @@ event-known-spec =
     returns-5
     same-length-15
     same-length-16
+    returns-6
     same-length-17
     same-length-18
     same-length-19
@@ -196,7 +250,17 @@ event-known-spec =
     same-length-21
     same-length-22
     same-length-23
+    returns-7
     same-length-24
     same-length-25
     same-length-26
-    returns-6)
+    same-length-27
+    same-length-28
+    same-length-29
+    same-length-30
+    same-length-31
+    same-length-32
+    same-length-33
+    same-length-34
+    same-length-35
+    returns-8)

@@ -99,6 +99,42 @@ shared-slice-read-t44 : tie.Need-shared-slice-read-t44
 unfolding payloadOf
 shared-slice-read-t44 c = omega (arith, ap payloadOf (c .before .before .before .before .match .keys5))
 
+shared-slice-read-t46 : tie.Need-shared-slice-read-t46
+unfolding payloadOf
+shared-slice-read-t46 c = omega (arith, ap payloadOf (c .before .match .keys6))
+
+add-t47 : tie.Need-add-t47
+add-t47 c = search needs
+
+shared-slice-read-t49 : tie.Need-shared-slice-read-t49
+unfolding payloadOf
+shared-slice-read-t49 c = omega (arith, ap payloadOf (c .before .before .match .keys6))
+
+add-t50 : tie.Need-add-t50
+add-t50 c = search needs
+
+shared-slice-read-t52 : tie.Need-shared-slice-read-t52
+unfolding payloadOf
+shared-slice-read-t52 c = omega (arith, ap payloadOf (c .before .before .before .match .keys6))
+
+shared-slice-read-t54 : tie.Need-shared-slice-read-t54
+unfolding payloadOf
+shared-slice-read-t54 c = omega (arith, ap payloadOf (c .before .match .keys7))
+
+add-t55 : tie.Need-add-t55
+add-t55 c = search needs
+
+shared-slice-read-t57 : tie.Need-shared-slice-read-t57
+unfolding payloadOf
+shared-slice-read-t57 c = omega (arith, ap payloadOf (c .before .before .match .keys7))
+
+add-t58 : tie.Need-add-t58
+add-t58 c = search needs
+
+shared-slice-read-t60 : tie.Need-shared-slice-read-t60
+unfolding payloadOf
+shared-slice-read-t60 c = omega (arith, ap payloadOf (c .before .before .before .match .keys7))
+
 returns : tie.Need-returns
 unfolding eventAt
 returns c = rw (c .before .before .match .keys1, add-zero)
@@ -121,15 +157,25 @@ returns-5 c = rw (c .before .before .before .before .match .keys5, add-zero)
 
 returns-6 : tie.Need-returns-6
 unfolding eventAt
-returns-6 c =
+returns-6 c = rw (c .before .before .before .match .keys6, add-zero)
+
+returns-7 : tie.Need-returns-7
+unfolding eventAt
+returns-7 c = rw (c .before .before .before .match .keys7, add-zero)
+
+returns-8 : tie.Need-returns-8
+unfolding eventAt
+returns-8 c =
     let tag = c .before .args .tag in
     let rest = c .match .rest in
     rw (
-      ne-eqb tag 0x10 (rest .0 .0 .0 .0 .1),
-      ne-eqb tag 0x11 (rest .0 .0 .0 .1),
-      ne-eqb tag 0x12 (rest .0 .0 .1),
-      ne-eqb tag 0x13 (rest .0 .1),
-      ne-eqb tag 0x14 (rest .1),
+      ne-eqb tag 0x10 (rest .0 .0 .0 .0 .0 .0 .1),
+      ne-eqb tag 0x11 (rest .0 .0 .0 .0 .0 .1),
+      ne-eqb tag 0x12 (rest .0 .0 .0 .0 .1),
+      ne-eqb tag 0x13 (rest .0 .0 .0 .1),
+      ne-eqb tag 0x14 (rest .0 .0 .1),
+      ne-eqb tag 0x15 (rest .0 .1),
+      ne-eqb tag 0x16 (rest .1),
     )
 
 pub event-at-spec : {M : Type 1} → statement M
@@ -161,9 +207,21 @@ event-at-spec =
     shared-slice-read-t41
     add-t42
     shared-slice-read-t44
+    shared-slice-read-t46
+    add-t47
+    shared-slice-read-t49
+    add-t50
+    shared-slice-read-t52
+    shared-slice-read-t54
+    add-t55
+    shared-slice-read-t57
+    add-t58
+    shared-slice-read-t60
     returns
     returns-2
     returns-3
     returns-4
     returns-5
-    returns-6)
+    returns-6
+    returns-7
+    returns-8)

@@ -3,7 +3,7 @@ use mathlib.Core.Path.{sym, _∙_}
 use native.Mathlib.Omega.{arith}
 use borrow.Author.Needs.{needs}
 use Rattle.fields.specs.Field.{byteAt}
-use Rattle.fields.proofs.Tags.{payload-least, payload-most}
+use Rattle.fields.proofs.Tags.{tag-least, tag-most}
 use Rattle.fields.proofs.Event.{no-event, event-stands}
 use Rattle.fields.proofs.event_size.Statement.{statement}
 use Rattle.fields.proofs.event_size.Tie as tie
@@ -19,7 +19,7 @@ sub-left c = search needs
 returns-2 : tie.Need-returns-2
 returns-2 c =
     let at = c .before .before .before .args in
-    no-event (at .bytes .now) (at .place) (at .step) (λ says. omega (arith, says .whole, payload-least (byteAt (at .bytes .now) (at .place)) (says .known)))
+    no-event (at .bytes .now) (at .place) (at .step) (λ says. omega (arith, says .whole, tag-least (byteAt (at .bytes .now) (at .place)) (says .known)))
 
 shared-slice-read-tag : tie.Need-shared-slice-read-tag
 shared-slice-read-tag c = search needs
@@ -45,7 +45,7 @@ returns-5 c =
 add-if6 : tie.Need-add-if6
 add-if6 c =
     let at = c .before .before .before .before .before .before .before .before .args in
-    omega (arith, payload-most (byteAt (at .bytes .now) (at .place)), c .before .payload-of .ensures)
+    omega (arith, tag-most (byteAt (at .bytes .now) (at .place)), c .before .payload-of .ensures)
 
 returns-6 : tie.Need-returns-6
 returns-6 c =

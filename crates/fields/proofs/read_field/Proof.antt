@@ -1,22 +1,24 @@
 -- `fields::read_field` meets its contract: each test of the code is the next of document 01's order. Assumes nothing.
-use mathlib.Core.Path.{sym, _∙_}
+use mathlib.Core.Path.{sym, ap, _∙_}
 use native.Mathlib.Omega.{arith}
 use borrow.Author.Needs.{needs}
+use Rattle.fields.specs.Field.{byteAt, payloadFor}
 use Rattle.fields.proofs.Order.{stops-short, tag-unknown, tag-misplaced, length-wrong, Headed, payload-short, payload-whole}
 use Rattle.fields.proofs.read_field.Statement.{statement}
 use Rattle.fields.proofs.read_field.Tie as tie
 
 -- behind the tests on the first three bytes
 headed : (c : tie.Else5)
-    → let at = c .before .before .before .before .before .before .before .before .before .before .args in
-    Headed (at .bytes .now) (at .place) (at .reader) (c .before .before .before .before .before .payload-of .result)
+    → let at = c .before .before .before .before .before .before .before .before .before .before .before .args in
+    Headed (at .bytes .now) (at .place) (at .reader) (c .before .payload-for .result)
 headed c =
+    let at = c .before .before .before .before .before .before .before .before .before .before .before .args in
     record {
       begins = omega arith;
-      says = c .before .before .before .before .before .payload-of .ensures;
-      known = c .before .before .before .before .if3 .left;
-      placed = sym (c .before .before .before .is-misplaced .ensures) ∙ c .before .before .if4 .left;
-      long = sym (c .before .two-at .ensures) ∙ c .if5 .left;
+      says = c .before .payload-for .ensures ∙ ap (payloadFor (byteAt (at .bytes .now) (at .place))) (c .before .before .two-at .ensures);
+      known = λ none. c .before .before .before .before .before .if3 .left (c .before .before .before .before .before .before .payload-of .ensures ∙ none);
+      placed = sym (c .before .before .before .before .is-misplaced .ensures) ∙ c .before .before .before .if4 .left;
+      long = sym (c .before .before .two-at .ensures) ∙ c .if5 .left;
     }
 
 refused-at-requires : tie.Need-refused-at-requires
@@ -50,7 +52,8 @@ refused-at-requires-3 c κs = search needs
 returns-3 : tie.Need-returns-3
 returns-3 c =
     let at = c .before .before .before .before .before .before .before .args in
-    c .refused-at3 .ensures ∙ tag-unknown (at .bytes .now) (at .place) (at .reader) (omega arith) (c .before .before .payload-of .ensures) (c .before .if3 .taken)
+    c .refused-at3 .ensures
+    ∙ tag-unknown (at .bytes .now) (at .place) (at .reader) (omega arith) (sym (c .before .before .payload-of .ensures) ∙ c .before .if3 .taken)
 
 is-misplaced-requires : tie.Need-is-misplaced-requires
 is-misplaced-requires c κs = search needs
@@ -63,8 +66,7 @@ returns-4 c =
     let at = c .before .before .before .before .before .before .before .before .before .args in
     c .refused-at4 .ensures
     ∙ tag-misplaced (at .bytes .now) (at .place) (at .reader) (omega arith)
-    (c .before .before .before .before .payload-of .ensures)
-    (c .before .before .before .if3 .left)
+    (λ none. c .before .before .before .if3 .left (c .before .before .before .before .payload-of .ensures ∙ none))
     (sym (c .before .before .is-misplaced .ensures) ∙ c .before .if4 .taken)
 
 add-two-at : tie.Need-add-two-at
@@ -72,6 +74,9 @@ add-two-at c = search needs
 
 two-at-requires : tie.Need-two-at-requires
 two-at-requires c κs = search needs
+
+payload-for-requires : tie.Need-payload-for-requires
+payload-for-requires c κs = search needs
 
 cast-if5 : tie.Need-cast-if5
 cast-if5 c = search needs
@@ -81,13 +86,13 @@ refused-at-requires-5 c κs = search needs
 
 returns-5 : tie.Need-returns-5
 returns-5 c =
-    let at = c .before .before .before .before .before .before .before .before .before .before .before .args in
+    let at = c .before .before .before .before .before .before .before .before .before .before .before .before .args in
+    let long = c .before .before .before .two-at .ensures in
     c .refused-at5 .ensures
     ∙ length-wrong (at .bytes .now) (at .place) (at .reader) (omega arith)
-    (c .before .before .before .before .before .before .payload-of .ensures)
-    (c .before .before .before .before .before .if3 .left)
-    (sym (c .before .before .before .before .is-misplaced .ensures) ∙ c .before .before .before .if4 .left)
-    (λ e. c .before .if5 .taken (c .before .before .two-at .ensures ∙ e))
+    (λ none. c .before .before .before .before .before .before .if3 .left (c .before .before .before .before .before .before .before .payload-of .ensures ∙ none))
+    (sym (c .before .before .before .before .before .is-misplaced .ensures) ∙ c .before .before .before .before .if4 .left)
+    (λ e. c .before .if5 .taken (long ∙ e ∙ ap (payloadFor (byteAt (at .bytes .now) (at .place))) (sym long) ∙ sym (c .before .before .payload-for .ensures)))
 
 add-if6 : tie.Need-add-if6
 add-if6 c = search needs
@@ -99,7 +104,9 @@ returns-6 : tie.Need-returns-6
 returns-6 c = c .refused-at6 .ensures ∙ payload-short (headed (c .before .before)) (omega arith)
 
 take-field-requires : tie.Need-take-field-requires
-take-field-requires c κs = search needs
+take-field-requires c κs =
+    let head = headed (c .before) in
+    (record { tag = head .known; whole = omega (arith, head .says) }, head .says)
 
 returns-7 : tie.Need-returns-7
 returns-7 c = c .take-field .ensures ∙ payload-whole (headed (c .before .before)) (omega arith)
@@ -122,6 +129,7 @@ read-field-spec =
     returns-4
     add-two-at
     two-at-requires
+    payload-for-requires
     cast-if5
     refused-at-requires-5
     returns-5

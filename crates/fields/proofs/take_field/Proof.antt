@@ -5,8 +5,8 @@ use mathlib.Core.Bool.{true, false, not}
 use native.Mathlib.Omega.{arith}
 use borrow.Author.Needs.{needs}
 use borrow.Author.Tests.{eq-eqb, ne-eqb}
-use Rattle.fields.specs.Field.{byteAt, payloadOf}
-use Rattle.fields.proofs.Tags.{payload-least}
+use Rattle.fields.specs.Field.{byteAt, twoAt}
+use Rattle.fields.proofs.Tags.{payload-least, sizes-payload, other-payload}
 use Rattle.fields.proofs.Payload.{sizes-read, end-read, event-read}
 use Rattle.fields.proofs.take_field.Statement.{statement}
 use Rattle.fields.proofs.take_field.Tie as tie
@@ -17,15 +17,16 @@ shared-slice-read-tag c = search needs
 add-i : tie.Need-add-i
 add-i c = search needs
 
-payload-of-requires : tie.Need-payload-of-requires
-payload-of-requires c κs = search needs
-
 add-next : tie.Need-add-next
 add-next c = search needs
 
 sizes-at-requires : tie.Need-sizes-at-requires
-unfolding payloadOf
-sizes-at-requires c κs = omega (arith, ap payloadOf (c .if1 .taken))
+sizes-at-requires c κs =
+    let start = c .before .before .before in
+    let at = start .args in (
+      omega (arith, sizes-payload (byteAt (at .bytes .now) (at .place)) (twoAt (at .bytes .now) (at .place + 1)) (c .if1 .taken), start .pre .1),
+      omega (arith, start .pre .0 .whole, start .pre .1),
+    )
 
 in-range-requires : tie.Need-in-range-requires
 in-range-requires c κs = search needs
@@ -35,10 +36,11 @@ refused-at-requires c κs = search needs
 
 returns : tie.Need-returns
 returns c =
-    let at = c .before .before .before .before .before .before .before .before .args in
+    let start = c .before .before .before .before .before .before .before in
+    let at = start .args in
     c .refused-at .ensures
     ∙ sizes-read (at .bytes .now) (at .place) (at .reader) true
-    (c .before .before .before .before .before .payload-of .ensures)
+    (start .pre .1)
     (c .before .before .before .before .if1 .taken)
     (c .before .before .before .sizes-at .ensures)
     (c .before .before .in-range .ensures)
@@ -46,9 +48,10 @@ returns c =
 
 returns-2 : tie.Need-returns-2
 returns-2 c =
-    let at = c .before .before .before .before .before .before .before .args in
+    let start = c .before .before .before .before .before .before in
+    let at = start .args in
     sizes-read (at .bytes .now) (at .place) (at .reader) false
-    (c .before .before .before .before .payload-of .ensures)
+    (start .pre .1)
     (c .before .before .before .if1 .taken)
     (c .before .before .sizes-at .ensures)
     (c .before .in-range .ensures)
@@ -56,18 +59,20 @@ returns-2 c =
 
 four-at-requires : tie.Need-four-at-requires
 four-at-requires c κs =
-    let start = c .before .before .before .before in
-    omega (arith, payload-least (byteAt (start .args .bytes .now) (start .args .place)) (start .pre .tag))
+    let start = c .before .before .before in
+    let at = start .args in
+    omega (arith, payload-least (byteAt (at .bytes .now) (at .place)) (twoAt (at .bytes .now) (at .place + 1)) (start .pre .0 .tag), start .pre .0 .whole)
 
 refused-at-requires-2 : tie.Need-refused-at-requires-2
 refused-at-requires-2 c κs = search needs
 
 returns-3 : tie.Need-returns-3
 returns-3 c =
-    let at = c .before .before .before .before .before .before .before .before .before .args in
+    let start = c .before .before .before .before .before .before .before .before in
+    let at = start .args in
     c .refused-at2 .ensures
     ∙ end-read (at .bytes .now) (at .place) (at .reader) true
-    (c .before .before .before .before .before .before .payload-of .ensures)
+    (start .pre .1)
     (c .before .before .before .before .before .if1 .left)
     (c .before .before .before .before .four-at .ensures)
     (c .before .before .before .if3 .taken)
@@ -75,10 +80,11 @@ returns-3 c =
 
 returns-4 : tie.Need-returns-4
 returns-4 c =
-    let at = c .before .before .before .before .before .before .before .before .args in
+    let start = c .before .before .before .before .before .before .before in
+    let at = start .args in
     rw (c .if4 .left)
     (end-read (at .bytes .now) (at .place) (at .reader) false
-    (c .before .before .before .before .before .payload-of .ensures)
+    (start .pre .1)
     (c .before .before .before .before .if1 .left)
     (c .before .before .before .four-at .ensures)
     (c .before .before .if3 .taken)
@@ -98,10 +104,11 @@ refused-at-requires-3 c κs = search needs
 
 returns-5 : tie.Need-returns-5
 returns-5 c =
-    let at = c .before .before .before .before .before .before .before .before .before .args in
+    let start = c .before .before .before .before .before .before .before .before in
+    let at = start .args in
     c .refused-at3 .ensures
     ∙ event-read (at .bytes .now) (at .place) (at .reader) true
-    (c .before .before .before .before .before .before .payload-of .ensures)
+    (start .pre .1)
     (c .before .before .before .before .before .if1 .left)
     (c .before .before .before .before .four-at .ensures)
     (c .before .before .before .if3 .left)
@@ -112,13 +119,17 @@ add-event-at : tie.Need-add-event-at
 add-event-at c = search needs
 
 event-at-requires : tie.Need-event-at-requires
-event-at-requires c κs = search needs
+event-at-requires c κs =
+    let start = c .before .before .before .before .before .before .before in
+    let at = start .args in
+    omega (arith, other-payload (byteAt (at .bytes .now) (at .place)) (twoAt (at .bytes .now) (at .place + 1)) (c .before .before .before .before .if1 .left), start .pre .0 .whole)
 
 returns-6 : tie.Need-returns-6
 returns-6 c =
-    let at = c .before .before .before .before .before .before .before .before .before .args in
+    let start = c .before .before .before .before .before .before .before .before in
+    let at = start .args in
     event-read (at .bytes .now) (at .place) (at .reader) false
-    (c .before .before .before .before .before .before .payload-of .ensures)
+    (start .pre .1)
     (c .before .before .before .before .before .if1 .left)
     (c .before .before .before .before .four-at .ensures)
     (c .before .before .before .if3 .left)
@@ -131,7 +142,6 @@ take-field-spec =
     (tie.spec
     shared-slice-read-tag
     add-i
-    payload-of-requires
     add-next
     sizes-at-requires
     in-range-requires

@@ -1,5 +1,5 @@
 -- `fresh::is_exact` meets its contract: the code is the definition, and products of numbers of 16 bits fit. Assumes nothing.
-use Prim.Native.Nat.{ℕ, _*_, _≤_}
+use Prim.Native.Nat.{ℕ, _+_, _*_, _≤_}
 use mathlib.Core.Path.{refl}
 use native.Mathlib.Omega.{arith}
 use native.Mathlib.Nat.{mul-le-mul}
@@ -25,6 +25,12 @@ cast-links-2 c = search needs
 mul-links : tie.Need-mul-links
 mul-links c = let at = c .before .before .before .args .s in omega (arith, product (at .n) (at .k) 65535 (omega arith) (omega arith))
 
+cast-links-3 : tie.Need-cast-links-3
+cast-links-3 c = search needs
+
+add-links : tie.Need-add-links
+add-links c = let at = c .before .before .before .before .args .s in omega (arith, product (at .n) (at .k) 65535 (omega arith) (omega arith))
+
 cast-workers : tie.Need-cast-workers
 cast-workers c = search needs
 
@@ -35,19 +41,19 @@ cast-places-2 : tie.Need-cast-places-2
 cast-places-2 c = search needs
 
 mul-places : tie.Need-mul-places
-mul-places c = let at = c .before .before .before .before .before .before .args .s in omega (arith, product (at .w) (at .r) 65535 (omega arith) (omega arith))
+mul-places c = let at = c .before .before .before .before .before .before .before .args .s in omega (arith, product (at .w) (at .r) 65535 (omega arith) (omega arith))
 
 add-result : tie.Need-add-result
-add-result c = let at = c .before .before .before .before .before .before .args .s in omega (arith, product (at .w) (at .r) 65535 (omega arith) (omega arith))
+add-result c = let at = c .before .before .before .before .before .before .before .args .s in omega (arith, product (at .w) (at .r) 65535 (omega arith) (omega arith))
 
 mul-result : tie.Need-mul-result
-mul-result c = let at = c .before .before .before .before .before .before .args .s in omega (arith, product (at .n) (at .k) 65535 (omega arith) (omega arith))
+mul-result c = let at = c .before .before .before .before .before .before .before .args .s in omega (arith, product (at .n) (at .k) 65535 (omega arith) (omega arith))
 
 mul-result-2 : tie.Need-mul-result-2
 mul-result-2 c =
-    let at = c .before .before .before .before .before .before .args .s in
+    let at = c .before .before .before .before .before .before .before .args .s in
     let links = product (at .n) (at .k) 65535 (omega arith) (omega arith) in
-    omega (arith, product (at .w) (at .n * at .k * 2) 8589672450 (omega arith) (omega arith))
+    omega (arith, product (at .w) ((at .n * at .k + at .b) * 2) 8589803520 (omega arith) (omega arith))
 
 mul-result-3 : tie.Need-mul-result-3
 mul-result-3 c = mul-result c
@@ -67,6 +73,8 @@ is-exact-spec =
     cast-links
     cast-links-2
     mul-links
+    cast-links-3
+    add-links
     cast-workers
     cast-places
     cast-places-2

@@ -34,7 +34,7 @@ lengths-here : (c : tie.After-wide2)
     (getD ns (c .before .wide .result) 0 ≡ getD ns (at .c .position) 0)
     × (getD ns (c .wide2 .result) 0 ≡ getD ns (at .s .w) 0)
     × (getD ns (at .s .w) 0 + getD ns (at .c .position) 0 ≤ links (at .s))
-    × (links (at .s) ≤ 8192)
+    × (links (at .s) ≤ 8208)
     × (c .before .wide .result < length ns)
 lengths-here c =
     let ns = start c .args .lengths .now in

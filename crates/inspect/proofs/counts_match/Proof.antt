@@ -1,5 +1,5 @@
 -- `inspect::counts_match` meets its contract. The loop's invariant: the counts of the records passed are tested. Each of the four numbers of a record is at
--- most 8,192, so that their sum fits. Assumes nothing.
+-- most 8,208, so that their sum fits. Assumes nothing.
 use Prim.Native.Nat.{ℕ, suc, _+_, _-_, _≤_}
 use mathlib.Core.Path.{_≡_, refl, ap, _∙_}
 use mathlib.Core.Bool.{Bool, _&&_}
@@ -27,7 +27,7 @@ Inv-loop counts tally ok₀ i₀ ok i = (i ≤ length counts) × (ok ≡ below i
 abbrev μ-loop : tie.MeasureT-loop
 μ-loop counts tally ok₀ i₀ ok i = length counts - i
 
-most-tallied : (start : tie.Start Inv-loop μ-loop) (j : ℕ) → getD (start .args .tally .now) j 0 ≤ 8192
+most-tallied : (start : tie.Start Inv-loop μ-loop) (j : ℕ) → getD (start .args .tally .now) j 0 ≤ 8208
 most-tallied start j = most-at (start .args .tally .now) j (start .pre .1)
 
 loop-holds : tie.Need-loop-holds Inv-loop μ-loop

@@ -67,7 +67,7 @@ module _ (c : tie.After-wide3 Inv-loop μ-loop) where
   most-is : most * 2 ≡ room (start .args .s)
   most-is = ap (λ (n : ℕ). n * 2) (c .before .before .before .before .before .before .before .wide .ensures ∙ same)
 
-  short : (many ≤ most) × (most ≤ 8192)
+  short : (many ≤ most) × (most ≤ 8208)
   short =
       let low = Each-at (λ n. n ≤ links (start .args .s)) (start .args .lengths .now) worker 0 (omega (arith, start .pre .2)) (start .pre .3) in
       (omega (arith, most-is, many-is), omega (arith, c .before .before .before .before .before .before .before .wide .ensures, c .before .before .before .before .before .before .before .before .link-count .ensures .1))
@@ -121,7 +121,7 @@ enter-requires : tie.Need-enter-requires Inv-loop μ-loop
 enter-requires c κs =
     let at = c .before .before .before in
     let room-for = start at .pre .4 in (
-      room-for .0 + worker at * 8192,
+      room-for .0 + worker at * 8208,
       logs-most (right (start at)) _ (room-for .0) (worker at) (at .before .before .before .before .before .before .loop .inv .1 .often) (room-for .1),
       omega (arith, long at, short at, bounds (start at .args .s) (start at .pre .0) .w-most, here at, room-for .2),
     )

@@ -92,7 +92,7 @@ module _ (c : tie.After-wide4) where
         whole = c .wide4 .ensures ∙ ap (λ (i : ℕ). getD lengths i 0) last;
       }
 
-  order : (to ≤ from) × (from ≤ end) × (end ≤ 8192) × (end * 2 ≤ length history)
+  order : (to ≤ from) × (from ≤ end) × (end ≤ 8208) × (end * 2 ≤ length history)
   order = cut-order fits cut
 
   same : c .before .before .before .before .before .before .before .link-count .result ≡ links (start .args .s)
@@ -114,7 +114,7 @@ module _ (c : tie.After-wide4) where
   mostCounted = 0 + to * once
 
   abbrev mostLogged : ℕ
-  mostLogged = mostCounted + 65536
+  mostLogged = mostCounted + 65664
 
   abbrev mostCleared : ℕ
   mostCleared = mostLogged + (from - to) * once
@@ -126,7 +126,7 @@ slice-aggregate-enter : tie.Need-slice-aggregate-enter
 slice-aggregate-enter c = sym (counted-long (c .before .before .before))
 
 enter-requires : tie.Need-enter-requires
-enter-requires c κs = (0, most-zeros 0 8192, omega (arith, counted-long (c .before .before .before), order (c .before .before .before)))
+enter-requires c κs = (0, most-zeros 0 8208, omega (arith, counted-long (c .before .before .before), order (c .before .before .before)))
 
 -- ---- after the counted entries
 
@@ -146,14 +146,14 @@ clearing c = c .before .before .before .before
 counted-most : (c : tie.After-enter) → Most (mostCounted (cutting c)) (c .enter .last .0)
 counted-most c =
     let at = cutting c in
-    entries-most _ _ once (to at) (take (to at * 2) (history at)) _ 0 (c .enter .ensures (to at) (counted-long at)) (most-zeros 0 8192)
+    entries-most _ _ once (to at) (take (to at * 2) (history at)) _ 0 (c .enter .ensures (to at) (counted-long at)) (most-zeros 0 8208)
 
 take-values-requires : tie.Need-take-values-requires
 take-values-requires c κs =
     let at = cutting (c .before) in
     let most = links-most (start at .args .s) (fits at .sizes) in (
       omega (arith, fits at .exact .values),
-      length-entered _ _ once (entries (to at) (take (to at * 2) (history at))) _ (c .before .enter .ensures (to at) (counted-long at)) ∙ length-replicate {A = ℕ} 8192 0,
+      length-entered _ _ once (entries (to at) (take (to at * 2) (history at))) _ (c .before .enter .ensures (to at) (counted-long at)) ∙ length-replicate {A = ℕ} 8208 0,
     )
 
 enter-logs-requires : tie.Need-enter-logs-requires

@@ -23,10 +23,10 @@ here start =
 inside : (start : tie.Start) → Within (start .args .s) (here start)
 inside start = within (start .args .s) (here start) (start .pre .1 .0) (start .pre .0)
 
-abbrev fromSizes : tie.After-struct-known4 → tie.Start
-fromSizes c = c .before .before .before .before .before .before .before .before .before .before .before .before .before .before .before .before .before .before
+abbrev fromSizes : tie.After-struct-known5 → tie.Start
+fromSizes c = c .before .before .before .before .before .before .before .before .before .before .before .before .before .before .before .before .before .before .before
 
-abbrev fromRun : tie.After-run-events → tie.After-struct-known4
+abbrev fromRun : tie.After-run-events → tie.After-struct-known5
 fromRun c = c .before .before .before .before .before .before .before .before .before .before .before .before .before .before
 
 abbrev fromEnd : tie.After-slice-known26 → tie.After-run-events
@@ -68,6 +68,13 @@ cast-links c = search needs
 mul-links : tie.Need-mul-links
 unfolding links
 mul-links c = let start = c .before .before .before .before .before .before .before .before .before .before .before .before .before .before .before .before .before in omega (arith, links-few (start .args .s) (start .pre .1 .0))
+
+cast-links-2 : tie.Need-cast-links-2
+cast-links-2 c = search needs
+
+add-links : tie.Need-add-links
+unfolding links
+add-links c = let start = c .before .before .before .before .before .before .before .before .before .before .before .before .before .before .before .before .before .before in omega (arith, links-few (start .args .s) (start .pre .1 .0))
 
 cast-all : tie.Need-cast-all
 cast-all c = search needs
@@ -228,6 +235,8 @@ run-front-spec =
     cast-w
     cast-links
     mul-links
+    cast-links-2
+    add-links
     cast-all
     mul-all
     add-all

@@ -9,7 +9,6 @@ use lib.ListN.{getD, set}
 use Rattle.rules.specs.declared.Event.the-variants.{Load}
 use Rattle.rules.specs.declared.Answer.the-variants.{Loaded}
 use Rattle.rules.specs.declared.RecordNumber.{RecordNumber}
-use Rattle.rules.specs.declared.LinkNumber.{LinkNumber}
 use Rattle.rules.specs.Size.{linkNumber}
 use Rattle.rules.specs.Outcome.{refusals}
 use Rattle.laws.proofs.Refusals.{RegisterThere, hasNumbers, numbers-there}
@@ -86,43 +85,29 @@ link-number-requires c κs =
       inside tested .2,
     )
 
-wide-requires : tie.Need-wide-requires
-wide-requires c κs = search needs
-
-mul-a : tie.Need-mul-a
-mul-a c = search needs
-
-shared-slice-read-a : tie.Need-shared-slice-read-a
-shared-slice-read-a c = search needs
-
-register-place-requires-2 : tie.Need-register-place-requires-2
-register-place-requires-2 c κs =
-    let tested = c .before .before .before .before .before .before in
-    (start tested .pre .2 .sizes, inside tested .0 .worker, inside tested .1)
-
-mul-registers : tie.Need-mul-registers
-mul-registers c = search needs
-
-slice-write-registers : tie.Need-slice-write-registers
-slice-write-registers c = search needs
+register-takes-requires : tie.Need-register-takes-requires
+register-takes-requires c κs =
+    let tested = c .before .before .before .before .before in
+    (start tested .pre, inside tested .0 .worker, inside tested .1, c .before .link-number .ensures .1)
 
 same-length : tie.Need-same-length
 same-length c = search needs
 
 returns-3 : tie.Need-returns-3
 returns-3 c t k known =
-    let tested = c .before .before .before .before .before .before .before in
+    let linked = c .before .before .before .before in
+    let tested = linked .before .before .before .before in
     let at = start tested .args in
-    let from = c .before .before .before .before .before .before .register-place .ensures .0 in
-    let link : linkNumber (at .s) (recordNumber (getD (at .registers .now) (at .w * at .s .r + at .q) 0)) (at .f) .0 ≡ c .before .before .wide .result =
-    ap (λ (i : ℕ). linkNumber (at .s) (recordNumber (getD (at .registers .now) i 0)) (at .f) .0) (sym from)
-    ∙ ap (λ (l : LinkNumber). l .0) (sym (c .before .before .before .link-number .ensures .0))
-    ∙ sym (c .before .before .wide .ensures) in
+    let from = linked .before .before .before .register-place .ensures .0 in
+    let takes = c .before .before .register-takes .ensures in
+    let link : linkNumber (at .s) (recordNumber (getD (at .registers .now) (at .w * at .s .r + at .q) 0)) (at .f) ≡ linked .link-number .result =
+    ap (λ (i : ℕ). linkNumber (at .s) (recordNumber (getD (at .registers .now) i 0)) (at .f)) (sym from) ∙ sym (linked .link-number .ensures .0) in
     loaded known (at .w) (at .r) (at .q) (at .f) (there tested)
-    (λ e. c .before .before .before .before .if2 .left (ap (λ (i : ℕ). getD (at .registers .now) i 0) from ∙ e))
+    (λ e. linked .before .if2 .left (ap (λ (i : ℕ). getD (at .registers .now) i 0) from ∙ e))
     ∙ (λ j.
-    let a : ℕ = getD (at .values .now) (link j) 0 in
-    record { answer = Loaded (recordNumber a); collector = k; tables = loadsOn (at .values) (at-last (at .registers) (set (at .registers .now) (sym (c .register-place2 .ensures .0) j) a)) t })
+    let a : ℕ = getD (at .values .now) (link j .0) 0 in
+    record { answer = Loaded (recordNumber a); collector = k; tables = loadsOn (at .values) (at-last (at .registers) (set (at .registers .now) (at .w * at .s .r + at .r) a)) t })
+    ∙ (λ j. record { answer = Loaded (sym (takes .0) j); collector = k; tables = loadsOn (at .values) (at-last (at .registers) (sym (takes .1) j)) t })
 
 pub loads-spec : {M : Type 1} → statement M
 loads-spec =
@@ -139,11 +124,6 @@ loads-spec =
     slice-read-base
     returns-2
     link-number-requires
-    wide-requires
-    mul-a
-    shared-slice-read-a
-    register-place-requires-2
-    mul-registers
-    slice-write-registers
+    register-takes-requires
     same-length
     returns-3)

@@ -4,7 +4,7 @@ use mathlib.Core.Path.{_≡_, refl, sym, ap, _∙_}
 use mathlib.Core.Bool.{true, _&&_}
 use native.Mathlib.Omega.{arith}
 use borrow.Author.Tests.{not-true, not-false}
-use lib.ListN.{getD, set}
+use lib.ListN.{getD}
 use Rattle.rules.specs.declared.RecordNumber.{RecordNumber}
 use Rattle.rules.specs.declared.LinkNumber.{LinkNumber}
 use Rattle.rules.specs.declared.Event.the-variants.{Store}
@@ -12,13 +12,12 @@ use Rattle.rules.specs.declared.Answer.the-variants.{Stored}
 use Rattle.rules.specs.Size.{linkNumber}
 use Rattle.rules.specs.Outcome.{refusals}
 use Rattle.laws.proofs.Refusals.{hasNumbers, numbers-there}
-use Rattle.tables.specs.Tables.{Tables, putHeld, putValues}
-use Rattle.tables.specs.Lie.{isOn, recordNumber}
-use Rattle.worker.specs.Lent.{storesOn, loggedOn, heldAfter}
-use Rattle.tables.specs.Event.{Called}
+use Rattle.tables.specs.Tables.{Tables}
+use Rattle.tables.specs.Lie.{recordNumber}
+use Rattle.worker.specs.Lent.{storesOn, linkTaken}
 use Rattle.worker.proofs.Refused.{no-such, store-holds-none}
 use Rattle.worker.proofs.Events.{register-low, base-stands}
-use Rattle.worker.proofs.Store.{room-stands, stored}
+use Rattle.worker.proofs.Store.{stored}
 use borrow.Author.Needs.{needs}
 use Rattle.worker.proofs.stores.Statement.{statement}
 use Rattle.worker.proofs.stores.Tie as tie
@@ -98,79 +97,13 @@ link-number-requires c κs =
       inside .2,
     )
 
-wide-requires : tie.Need-wide-requires
-wide-requires c κs = search needs
-
-mul-old : tie.Need-mul-old
-mul-old c = search needs
-
-slice-read-old : tie.Need-slice-read-old
-slice-read-old c =
-    let linked = c .before .before in
-    let known = start (linked .before .before .before .before) .pre .2 in
-    omega (arith, linked .link-number .ensures .1, known .exact .values, c .before .wide .ensures)
-
-register-place-requires-2 : tie.Need-register-place-requires-2
-register-place-requires-2 c κs =
-    let tested = c .before .before .before .before .before .before in
-    let at = start tested .args in
-    let inside = numbers-there (at .s) (at .w) (at .q) (at .r) (at .f) (there tested) in
-    (start tested .pre .2 .sizes, inside .0 .worker, inside .1)
-
-mul-new : tie.Need-mul-new
-mul-new c =
-    let tested = c .before .before .before .before .before .before .before in
-    omega (arith, c .register-place2 .ensures .1, start tested .pre .2 .exact .registers, start tested .good)
-
-shared-slice-read-new : tie.Need-shared-slice-read-new
-shared-slice-read-new c =
-    let tested = c .before .before .before .before .before .before .before .before in
-    omega (arith, c .before .register-place2 .ensures .1, start tested .pre .2 .exact .registers)
-
-is-on-requires : tie.Need-is-on-requires
-is-on-requires c κs =
+link-takes-requires : tie.Need-link-takes-requires
+link-takes-requires c κs =
     let linked = c .before .before .before .before .before in
-    let known = start (linked .before .before .before .before) .pre .2 in
-    omega (arith, linked .link-number .ensures .1, known .exact .changed, c .before .before .before .before .wide .ensures)
-
-logged-requires : tie.Need-logged-requires
-logged-requires c κs =
-    let linked = c .before .before .before .before .before .before .before .before .before in
     let tested = linked .before .before .before .before in
     let at = start tested .args in
-    let known = start tested .pre .2 in
     let inside = numbers-there (at .s) (at .w) (at .q) (at .r) (at .f) (there tested) in
-    let mark : c .before .before .before .is-on .result ≡ isOn (getD (at .changed .now) (linked .link-number .result .0) 0) =
-    c .before .before .before .is-on .ensures ∙ ap (λ (i : ℕ). isOn (getD (at .changed .now) i 0)) (c .before .before .before .before .before .before .before .before .wide .ensures) in
-    record {
-      sizes = known .sizes;
-      worker = inside .0 .worker;
-      link = omega (arith, linked .link-number .ensures .1, known .exact .changed);
-      logs = known .exact .logs;
-      lengths = omega (arith, inside .0 .worker, known .exact .lengths);
-      mark = mark;
-      free = λ off. room-stands known (at .w) (linked .link-number .result) (inside .0 .worker) (linked .link-number .ensures .1) (sym mark ∙ off);
-    }
-
-mul-values : tie.Need-mul-values
-mul-values c = search needs
-
-slice-write-values : tie.Need-slice-write-values
-slice-write-values c =
-    let linked = c .before .before .before .before .before .before .before .before .before .before .before .before .before .before .before .before in
-    let known = start (linked .before .before .before .before) .pre .2 in
-    omega (arith, linked .link-number .ensures .1, known .exact .values, c .before .before .before .before .before .before .before .before .before .before .before .before .before .before .before .wide .ensures)
-
-snooped-requires : tie.Need-snooped-requires
-snooped-requires c κs =
-    let read = c .before .before .before .before .before .before .before .before .before .before .before .before .before .before in
-    let tested = read .before .before .before .before .before .before .before in
-    let at = start tested .args in
-    let known = start tested .pre .2 in
-    let inside = numbers-there (at .s) (at .w) (at .q) (at .r) (at .f) (there tested) in (
-      omega (arith, inside .0 .worker, known .exact .snoops),
-      omega (arith, register-low known (at .w) (at .r) (inside .0 .worker) (inside .1), known .exact .held, ap (λ (i : ℕ). getD (at .registers .now) i 0) (read .register-place2 .ensures .0)),
-    )
+    (start tested .pre, inside .0 .worker, inside .1, linked .link-number .ensures .1)
 
 same-length : tie.Need-same-length
 same-length c = search needs
@@ -189,33 +122,18 @@ same-length-5 c = search needs
 
 returns-3 : tie.Need-returns-3
 returns-3 c t k known =
-    let linked = c .before .before .before .before .before .before .before .before .before .before .before .before .before .before .before .before .before .before .before .before in
+    let linked = c .before .before .before .before .before .before .before .before .before .before .before .before .before .before .before .before in
     let tested = linked .before .before .before .before in
     let at = start tested .args in
     let here : Tables = storesOn (at .held) (at .values) (at .changed) (at .registers) (at .snoops) (at .logs) (at .lengths) t in
-    let l : LinkNumber = linked .link-number .result in
-    let logs = c .before .before .before .before .before .before .before .before .before .before .logged in
-    let place = c .before .before .before .before .before .before .before .before .before .before .before .before .before .before .before .before .before .register-place2 in
-    let wide = c .before .before .before .before .before .before .before .before .before .before .before .before .before .before .before .before .before .before .before .wide in
-    let from : LinkNumber → ℕ → ℕ → Called =
-    (λ m i r.
-    record {
-      answer = Stored (recordNumber (getD (at .values .now) i 0));
-      collector = k;
-      tables =
-          putHeld (heldAfter (at .w) (recordNumber (getD (at .registers .now) r 0)) (at .snoops .now) (at .held .now))
-          (putValues (set (at .values .now) i (getD (at .registers .now) r 0)) (loggedOn (at .s) (at .w) m (recordNumber (getD (at .values .now) i 0)) here));
-    }) in
+    let takes = c .before .before .before .before .before .before .before .before .before .before .link-takes .ensures in
     stored known (at .w) (at .q) (at .f) (at .r) (there tested)
     (λ e. linked .before .if2 .left (sym (base (linked .before .before .before)) ∙ e))
-    ∙ ap (λ (l : LinkNumber). from l (l .0) (at .w * at .s .r + at .r)) (link linked)
-    ∙ (λ j. from l (sym (wide .ensures) j) (sym (place .ensures .0) j))
+    (omega (arith, linked .link-number .ensures .1, ap (λ (l : LinkNumber). l .0) (link linked)))
     ∙ (λ j.
-    record {
-      answer = Stored (recordNumber (getD (at .values .now) (wide .result) 0));
-      collector = k;
-      tables = putHeld (sym (c .before .before .snooped .ensures) j) (putValues (set (at .values .now) (wide .result) (getD (at .registers .now) (place .result) 0)) (sym (logs .ensures here) j));
-    })
+    let m : LinkNumber = link linked j in
+    record { answer = Stored (recordNumber (getD (at .values .now) (m .0) 0)); collector = k; tables = linkTaken (at .s) (at .w) m (at .r) here })
+    ∙ (λ j. record { answer = Stored (sym (takes .0) j); collector = k; tables = sym (takes .1 t) j })
 
 pub stores-spec : {M : Type 1} → statement M
 stores-spec =
@@ -232,17 +150,7 @@ stores-spec =
     shared-slice-read-base
     returns-2
     link-number-requires
-    wide-requires
-    mul-old
-    slice-read-old
-    register-place-requires-2
-    mul-new
-    shared-slice-read-new
-    is-on-requires
-    logged-requires
-    mul-values
-    slice-write-values
-    snooped-requires
+    link-takes-requires
     same-length
     same-length-2
     same-length-3

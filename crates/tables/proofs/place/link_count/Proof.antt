@@ -1,4 +1,4 @@
--- `tables::place::link_count` meets its contract: S is at most 8,192. Assumes nothing.
+-- `tables::place::link_count` meets its contract: S is at most 8,208. Assumes nothing.
 use native.Mathlib.Omega.{arith}
 use Rattle.laws.proofs.Number.{links-most}
 use Rattle.rules.specs.Size.{links}
@@ -10,9 +10,13 @@ mul-result : tie.Need-mul-result
 unfolding links
 mul-result c = omega (arith, links-most (c .before .args .s) (c .before .pre))
 
+add-result : tie.Need-add-result
+unfolding links
+add-result c = omega (arith, links-most (c .before .before .args .s) (c .before .before .pre))
+
 returns : tie.Need-returns
 unfolding links
-returns c = (refl, links-most (c .before .args .s) (c .before .pre))
+returns c = (refl, links-most (c .before .before .args .s) (c .before .before .pre))
 
 pub link-count-spec : {M : Type 1} → statement M
-link-count-spec = tie.close (tie.spec mul-result returns)
+link-count-spec = tie.close (tie.spec mul-result add-result returns)

@@ -22,7 +22,7 @@ mul-result-2 : tie.Need-mul-result-2
 mul-result-2 c =
     let at = c .before .before in
     let b = bounds (at .args .s) (at .pre .0) in
-    let low : c .wide .result * 2 ≤ 16384 = omega arith in
+    let low : c .wide .result * 2 ≤ 16416 = omega arith in
     omega (arith, mul-le-mul-left (at .args .w) low, b .w-most)
 
 returns : tie.Need-returns
