@@ -64,7 +64,7 @@ lent_a_pool! {
         events: *mut usize, place: *mut usize
     ) -> u16;
     // Inner, and in no header: it requires a sound pool and checks nothing.
-    fn yuyarisun_inner_event(.., value: *mut u16, tag: u8, a: u8, b: u8, c: u8, d: u8) -> u16;
+    fn yuyarisun_inner_event(.., value: *mut u16, tag: u8, first: u8, second: u8, third: u8, fourth: u8) -> u16;
 }
 
 lent_tables! { *mut u16:

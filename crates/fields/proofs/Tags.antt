@@ -3,6 +3,7 @@
 --     load-or-store, look-or-post     of the numbers from make to store, what is none of the first three; and the two behind these
 --     either            what holds of both holds of either
 --     other-payload     only the sizes have another payload by their length
+--     sizes-payload     theirs has 8 bytes or more
 --     tag-least, tag-most, payload-least, payload-most     a payload has 4 to 10 bytes
 -- Assumes nothing.
 use Prim.Native.Nat.{ℕ, _≤_, _<_}

@@ -2,10 +2,10 @@
 // tables must not overlap. The sizes are n, k, w, r and b. A call on a pool answers the number of "Numbers a call may answer"; its value is put into `value`, 0 where it
 // refuses. The header is include/yuyarisun.h.
 //     yuyarisun_make, _move, _drop, _load, _store, _look, _post, _collect     one event of each kind: `pool::event`
-//     yuyarisun_fresh, _sound, _free_records                    the calls of `fresh`, and `pool::sound`
-//     yuyarisun_events, _trace                                  many events at once; a whole trace
-//     yuyarisun_join                                            parts of a trace, joined
-//     yuyarisun_inner_event                                     inner: an event on a pool that is known to be sound; in no header
+//     yuyarisun_fresh, _sound, _free_records                                  the calls of `fresh`, and `pool::sound`
+//     yuyarisun_events, _trace                                                many events at once; a whole trace
+//     yuyarisun_join                                                          parts of a trace, joined
+//     yuyarisun_inner_event                                                   inner: an event on a pool that is known to be sound; in no header
 // Inner: one_event, event_of, rest_number, rest_place, ending_number, ending_place, ending_free, joined_number, joined_length, joined_place.
 use events::event_known;
 use fresh::free_records;
