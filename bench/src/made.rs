@@ -7,6 +7,7 @@
 use crate::flat::Pool;
 use crate::random::Random;
 use std::io::{self, Write};
+use std::iter;
 
 /// A trace's tag, and the event's numbers in the trace's order.
 pub type Event = [u8; 5];
@@ -86,9 +87,31 @@ impl<const N: usize, const K: usize, const W: usize, const R: usize, const B: us
 /// A whole trace at the largest sizes of `replay`.
 pub fn write_trace(to: &mut impl Write, seed: u64, collects: usize, events: u32) -> io::Result<()> {
     let mut maker = Maker::<64, 4, 4, 8, 8>::new(seed, collects);
+    write_events(to, iter::repeat_with(|| maker.next()), events)
+}
+
+/// A link that is stored again right after its clearing, when the log has an entry for every other
+/// link that the worker can name; then a cycle without stores, and all over again.
+pub fn write_stored_again(to: &mut impl Write, events: u32) -> io::Result<()> {
+    const RECORDS: u8 = 8;
+    const LINKS: u8 = 4;
+    const COLLECT: Event = [0x20, 0, 0, 0, 0];
+    let makes = (0..RECORDS).map(|r| [0x10, 0, r, 0, 0]);
+    let stores: Vec<Event> =
+        (0..RECORDS).flat_map(|q| (0..LINKS).map(move |f| [0x14, 0, q, f, (q + 1) % RECORDS])).collect();
+    let steps = |n: usize| iter::repeat_n(COLLECT, n);
+    let mut turn = vec![stores[0]];
+    // Phases 0, 1 and 2; phase 3 clears the one entry.
+    turn.extend(steps(1 + 4 + 4).chain(stores[1..].iter().copied()).chain(steps(1)));
+    turn.push(stores[0]);
+    // Phase 4, the one entry of phase 5, and phase 6; then a cycle with all entries.
+    turn.extend(steps(4 + 1 + 1).chain(steps(1 + 4 + 4 + stores.len() + 4 + stores.len() + 1)));
+    write_events(to, makes.chain(turn.into_iter().cycle()), events)
+}
+
+fn write_events(to: &mut impl Write, made: impl Iterator<Item = Event>, events: u32) -> io::Result<()> {
     to.write_all(&[0x01, 0, 10, 0, 64, 0, 4, 0, 4, 0, 8, 0, 8])?;
-    for step in 1..=events {
-        let event = maker.next();
+    for (step, event) in (1..=events).zip(made) {
         let numbers = match event[0] {
             0x10 | 0x12 => 2,
             0x11 | 0x15 | 0x16 => 3,

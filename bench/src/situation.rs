@@ -67,12 +67,29 @@ pub fn half_changed(sizes: Sizes) -> Lent {
     worked(sizes, 0, 0, Lists { logs, history: Vec::new() })
 }
 
-/// Phase 5 at a position, every link in the history and changed again, the last at the very end of
-/// the last log.
-pub fn all_changed(sizes: Sizes, position: usize) -> Lent {
-    let mut logs = vec![Vec::new(); sizes.w as usize];
+/// When the log entry that phase 5 looks for was written.
+pub enum Written {
+    First,
+    Last,
+}
+
+/// Phase 5 at a position, every link in the history and changed again: the link at the position
+/// before all others in the first log, or behind them in the last.
+pub fn all_changed(sizes: Sizes, position: usize, written: Written) -> Lent {
     let all: Vec<usize> = (0..sizes.links()).collect();
-    *logs.last_mut().expect("a worker") = all.clone();
+    let mut log = all.clone();
+    log.remove(position);
+    let mut logs = vec![Vec::new(); sizes.w as usize];
+    match written {
+        Written::First => {
+            log.insert(0, position);
+            logs[0] = log;
+        }
+        Written::Last => {
+            log.push(position);
+            logs[sizes.w as usize - 1] = log;
+        }
+    }
     worked(sizes, 5, position as u16, Lists { logs, history: all })
 }
 
@@ -151,13 +168,18 @@ pub fn all(sizes: Sizes) -> Vec<Situation> {
         situation("phase 3, one entry cleared", &cleared, Event::Collect),
         situation("phase 4, R registers held", &snooping, Event::Collect),
         situation(
-            "phase 5, the view value last in the logs, history kept",
-            &all_changed(sizes, s - 2),
+            "phase 5, the entry wanted written last, history kept",
+            &all_changed(sizes, s - 2, Written::Last),
             Event::Collect,
         ),
         situation(
-            "phase 5, the view value last in the logs, history of S emptied",
-            &all_changed(sizes, s - 1),
+            "phase 5, the entry wanted written first, history kept",
+            &all_changed(sizes, s - 2, Written::First),
+            Event::Collect,
+        ),
+        situation(
+            "phase 5, the entry wanted written first, history of S emptied",
+            &all_changed(sizes, s - 1, Written::First),
             Event::Collect,
         ),
         situation("phase 6, all searched, the last freed", &searched(sizes, Some(last)), Event::Collect),

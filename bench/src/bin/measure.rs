@@ -7,8 +7,9 @@
 
 use bench::made::{self, Maker, COLLECTOR_HEAVY, WORKER_HEAVY};
 use bench::parts::{self, Parts};
+use bench::situation::{self, all_changed, Written};
 use bench::table::{grouped, time, Table};
-use bench::{check, child, clock, counted, flat, situation};
+use bench::{check, child, clock, counted, flat};
 use std::error::Error;
 use std::fs::{self, File};
 use std::hint::black_box;
@@ -96,6 +97,14 @@ impl Bench {
         Ok(path)
     }
 
+    fn stored_again(&self, events: u32) -> Done<PathBuf> {
+        let path = self.folder.join("stored-again.trace");
+        let mut to = BufWriter::new(File::create(&path)?);
+        made::write_stored_again(&mut to, events)?;
+        to.flush()?;
+        Ok(path)
+    }
+
     /// Two programs print the same for a trace.
     fn compare(&self, a: &Path, b: &Path, trace: &Path) -> Done {
         let (printed_a, printed_b) = (self.folder.join("printed.a"), self.folder.join("printed.b"));
@@ -138,16 +147,17 @@ impl Bench {
     /// The same in instructions, on a shorter trace.
     fn replay_instructions(&mut self) -> Done {
         let events = self.scale.fewer_events;
-        for kind in KINDS {
-            let trace = self.trace(kind.1, events)?;
+        let mut traces = Vec::new();
+        for (kind, collects) in KINDS {
+            traces.push((format!("{kind} trace"), self.trace(collects, events)?));
+        }
+        traces.push(("a link stored again right after its clearing".into(), self.stored_again(events)?));
+        for (kind, trace) in traces {
+            self.compare(&self.replay, &self.flat, &trace)?;
             let this = counted::whole(&self.replay, &trace, &self.folder)?;
             let that = counted::whole(&self.flat, &trace, &self.folder)?;
             let each = |count: u64| format!("{:.1} instructions an event", count as f64 / f64::from(events));
-            let what = format!(
-                "replay, {} trace, {} events, beside flat-array Rust",
-                kind.0,
-                grouped(events.into())
-            );
+            let what = format!("replay, {kind}, {} events, beside flat-array Rust", grouped(events.into()));
             self.table.row(&what, each(this), each(that), this as f64 / that as f64);
         }
         Ok(())
@@ -175,7 +185,7 @@ impl Bench {
         let pools = [
             ("no entry", situation::quiet(LARGEST)),
             ("every second link in a log", situation::half_changed(LARGEST)),
-            ("every link in the history and in a log", situation::all_changed(LARGEST, 0)),
+            ("every link in the history and in a log", all_changed(LARGEST, 0, Written::Last)),
         ];
         for (name, mut pool) in pools {
             agree(&pool)?;

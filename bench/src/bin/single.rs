@@ -7,7 +7,7 @@
 //! It prints one name for each call that is counted, in order. Nothing else calls what is counted.
 
 use bench::check;
-use bench::situation::{self, Situation};
+use bench::situation::{self, all_changed, Situation, Written};
 use std::env;
 use std::process::exit;
 use yuyarisun::{Answer, Event, Lent, Pool, Sizes};
@@ -41,7 +41,7 @@ fn check(sizes: Sizes) {
     let pools = [
         ("check, no entry", situation::quiet(sizes)),
         ("check, every second link in a log", situation::half_changed(sizes)),
-        ("check, every link in the history and in a log", situation::all_changed(sizes, 0)),
+        ("check, every link in the history and in a log", all_changed(sizes, 0, Written::Last)),
     ];
     for (name, pool) in pools {
         assert!(check::sound(&pool) && pool.is_sound(), "{name}: the pool is not sound");

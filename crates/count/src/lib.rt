@@ -16,9 +16,9 @@ use tables::place::log_place;
 use tables::place::wide;
 ghost use mathlib.Core.Path.{_≡_};
 ghost use mathlib.Core.Bool.{true};
-ghost use Prim.Native.Nat.{ℕ, _*_, _<_};
+ghost use Prim.Native.Nat.{ℕ, _*_, _≤_, _<_};
 ghost use lib.ListN.{length, getD};
-ghost use Rattle.rules.specs.View.{oldIn, lookUp, viewValue};
+ghost use Rattle.rules.specs.View.{times, oldIn, lookUp, viewValue};
 ghost use Rattle.tables.specs.Tables.{Tables};
 ghost use Rattle.tables.specs.Lie.{isOn, entries, logsIn, poolOf};
 ghost use Rattle.tables.specs.Event.{InPhase, Steps};
@@ -31,27 +31,30 @@ enum Found {
     Nothing,
 }
 
-// What a log, entry by entry, says of a link.
+// What a log, entry by entry, says of a link that it says one thing of, or nothing: "newest entry to oldest" (request 6 of document 02).
 fn find(log: &[u16], l: LinkNumber) -> Found
+    requires { ⌜ ((n : ℕ) → length (now log) ≡ n * 2 → times l (entries n (now log)) ≤ 1) ⌝ }
     ensures { λ x. ⌜ ((n : ℕ) → length (now (log .entry)) ≡ n * 2 → (a : RecordNumber) → oldIn l (entries n (now (log .entry))) a ≡ oldOr x a) ⌝ }
 {
-    let mut i = 0;
-    while i + 1 < log.len() {
+    let mut i = log.len();
+    while 1 < i {
+        i -= 2;
         if log[i] == l.0 {
             return Found::Old(RecordNumber(log[i + 1]));
         }
-        i += 2;
     }
     Found::Nothing
 }
 
-// The look-up of a changed link in the logs: "the old value in the one log entry for it". In which order it looks is its own affair: there is one entry.
+// The look-up of a changed link in the logs: "the old value in the one log entry for it". In which order it looks is its own affair, for there is one entry: "from the
+// last worker to the first" (request 6 of document 02).
 fn look_up(s: Sizes, logs: &[u16], lengths: &[u16], l: LinkNumber) -> RecordNumber
     requires { ⌜ OneEntry s (now logs) (now lengths) l ⌝ }
     ensures { λ x. ⌜ x ≡ lookUp l (logsIn s (now (logs .entry)) (now (lengths .entry))) ⌝ }
 {
-    let mut w = 0;
-    while w < s.w {
+    let mut w = s.w;
+    while 0 < w {
+        w -= 1;
         let from = log_place(s, w);
         let n = lengths[wide(w)];
         let to = from + wide(n) * 2;
@@ -59,7 +62,6 @@ fn look_up(s: Sizes, logs: &[u16], lengths: &[u16], l: LinkNumber) -> RecordNumb
         if let Found::Old(a) = found {
             return a;
         }
-        w += 1;
     }
     RecordNumber(0)
 }

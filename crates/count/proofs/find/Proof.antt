@@ -1,28 +1,28 @@
--- `count::find` meets its contract. The loop's invariant: it stands before an entry, and those passed are for other links. Assumes nothing.
-use Prim.Native.Nat.{ℕ, suc, _-_, _*_, _≤_}
-use mathlib.Core.Path.{_≡_, refl}
+-- `count::find` meets its contract. The loop's invariant: it stands behind an entry, and those from there on are for other links. Assumes nothing.
+use Prim.Native.Nat.{ℕ, suc, _-_, _*_, _≤_, _<_}
+use mathlib.Core.Path.{_≡_, refl, _∙_}
 use native.Mathlib.Omega.{arith}
 use lib.ListN.{length}
 use borrow.Author.Needs.{needs}
 use Rattle.rules.specs.View.{times}
 use Rattle.tables.specs.Lie.{entries}
 use Rattle.laws.proofs.Entries.{oldIn-absent}
-use Rattle.count.proofs.Search.{passed-found, passed-more}
+use Rattle.count.proofs.Search.{next-below, passed-found, passed-more}
 use Rattle.count.proofs.find.Statement.{statement}
 use Rattle.count.proofs.find.Tie as tie
 
 abbrev Inv-loop : tie.InvT-loop
-Inv-loop log l i₀ i = (k : ℕ) × (i ≡ k * 2) × (i ≤ length log) × (times l (entries k log) ≡ 0)
+Inv-loop log l i₀ i =
+    (i ≤ length log) × ((n : ℕ) → length log ≡ n * 2 → (k : ℕ) × (i ≡ k * 2) × (k ≤ n) × (times l (entries n log) ≡ times l (entries k log)))
 
 abbrev μ-loop : tie.MeasureT-loop
-μ-loop log l i₀ i = length log - i
+μ-loop log l i₀ i = i
 
 loop-holds : tie.Need-loop-holds Inv-loop μ-loop
-unfolding times entries
-loop-holds c = (0, search needs, search needs, refl)
+loop-holds c = (search needs, λ n whole. (n, whole, omega arith, refl))
 
-add-loop : tie.Need-add-loop Inv-loop μ-loop
-add-loop c = search needs
+sub-i : tie.Need-sub-i Inv-loop μ-loop
+sub-i c = search needs
 
 mul-if1 : tie.Need-mul-if1 Inv-loop μ-loop
 mul-if1 c = search needs
@@ -30,43 +30,56 @@ mul-if1 c = search needs
 shared-slice-read-if1 : tie.Need-shared-slice-read-if1 Inv-loop μ-loop
 shared-slice-read-if1 c = search needs
 
-add-t9 : tie.Need-add-t9 Inv-loop μ-loop
-add-t9 c = search needs
+add-t8 : tie.Need-add-t8 Inv-loop μ-loop
+add-t8 c = search needs
 
-mul-t10 : tie.Need-mul-t10 Inv-loop μ-loop
-mul-t10 c = search needs
+mul-t9 : tie.Need-mul-t9 Inv-loop μ-loop
+mul-t9 c = search needs
 
-shared-slice-read-t12 : tie.Need-shared-slice-read-t12 Inv-loop μ-loop
-shared-slice-read-t12 c = search needs
+shared-slice-read-t11 : tie.Need-shared-slice-read-t11 Inv-loop μ-loop
+shared-slice-read-t11 c = search needs
+
+-- the entry that is looked at, among those of a log of n entries: it is entry k, and those behind it are for other links
+below : (c : tie.In-loop Inv-loop μ-loop) (n : ℕ) → length (c .before .before .args .log .now) ≡ n * 2
+    → (k : ℕ) × (c .before .loop .i - 2 ≡ k * 2)
+    × ((k < n) × (times (c .before .before .args .l) (entries n (c .before .before .args .log .now)) ≡ times (c .before .before .args .l) (entries (suc k) (c .before .before .args .log .now))))
+below c n whole =
+    let log = c .before .before .args .log .now in
+    let l = c .before .before .args .l in
+    let at = c .before .loop .inv .1 n whole in
+    next-below (λ k. (k ≤ n) × (times l (entries n log) ≡ times l (entries k log))) (c .before .loop .i) (at .0) (c .loop-test .taken) (at .1) (at .2, at .3)
 
 returns : tie.Need-returns Inv-loop μ-loop
 returns c n whole a =
-    let start = c .before .before .before .before .before .before in
-    let at = c .before .before .before .before .before .loop in
-    passed-found (start .args .l) (start .args .log .now) (at .inv .0) (at .inv .3) (at .i) (at .inv .1) (c .before .if1 .taken) n (omega arith) a
-
-add-i : tie.Need-add-i Inv-loop μ-loop
-add-i c = search needs
+    let here = c .before .before .before .before in
+    let start = here .before .before in
+    let at = below here n whole in
+    passed-found (start .args .l) (start .args .log .now) n (at .0) (at .2 .1) (here .before .loop .i - 2) (at .1) (c .before .if1 .taken) (start .pre n whole) (at .2 .0) a
 
 loop-less : tie.Need-loop-less Inv-loop μ-loop
 loop-less c = search needs
 
 loop-again : tie.Need-loop-again Inv-loop μ-loop
 loop-again c =
-    let start = c .before .before .before .before .before in
-    let at = c .before .before .before .before .loop in (
-      suc (at .inv .0),
+    let here = c .before .before .before in
+    let start = here .before .before in (
       omega arith,
-      omega arith,
-      passed-more (start .args .l) (start .args .log .now) (at .inv .0) (at .inv .3) (at .i) (at .inv .1) (c .if1 .left),
+      λ n whole.
+          let at = below here n whole in (
+            at .0,
+            at .1,
+            omega (arith, at .2 .0),
+            passed-more (start .args .l) (start .args .log .now) n (at .0) (at .2 .1) (here .before .loop .i - 2) (at .1) (c .if1 .left),
+          ),
     )
 
 returns-2 : tie.Need-returns-2 Inv-loop μ-loop
+unfolding times entries
 returns-2 c n whole a =
     let start = c .before .before in
-    let at = c .before .loop in
-    let all : n ≡ at .inv .0 = omega arith in
-    rw all (oldIn-absent (start .args .l) (entries (at .inv .0) (start .args .log .now)) a (at .inv .3))
+    let at = c .before .loop .inv .1 n whole in
+    let first : at .0 ≡ 0 = omega (arith, at .1) in
+    oldIn-absent (start .args .l) (entries n (start .args .log .now)) a (at .3 ∙ rw first refl)
 
 pub find-spec : {M : Type 1} → statement M
 find-spec =
@@ -75,14 +88,13 @@ find-spec =
     Inv-loop
     μ-loop
     loop-holds
-    add-loop
+    sub-i
     mul-if1
     shared-slice-read-if1
-    add-t9
-    mul-t10
-    shared-slice-read-t12
+    add-t8
+    mul-t9
+    shared-slice-read-t11
     returns
-    add-i
     loop-less
     loop-again
     returns-2)
