@@ -1,17 +1,19 @@
 -- What is noted of each link after a list of entries.
 --     raised                           a table of which one number rises
+--     own-place, no-place, place-low   the place of a link
 --     Sized, sized-entered             there are 8,208 places, before and after
 --     entered-tells                    every entry is in range
 --     seen-entered                     what was seen of a link rises with each of its entries
 --     last-entered                     the last that is noted of a link is the old value of its one entry
 --     valued-tells, sized-valued, last-valued     the links' values are noted
 -- Assumes nothing.
-use Prim.Native.Nat.{ℕ, _+_, _*_, _%_, _≤_, _<_}
+use Prim.Native.Nat.{ℕ, _+_, _*_, _≤_, _<_}
 use mathlib.Core.Path.{_≡_, refl, sym, ap, _∙_}
 use mathlib.Core.Logic.{Iff·trans, ⊎-elim}
+use mathlib.Core.Bool.{cond}
 use mathlib.Core.List.{List, [], _∷_, _++_}
 use native.Mathlib.Omega.{arith}
-use native.Mathlib.Nat.{mod-eq-of-lt}
+use borrow.Author.Tests.{lt-ltb, le-ltb}
 use lib.Dec.{eqb}
 use lib.ListN.{length, getD, drop, set, length-set, List·getD-append}
 use lib.Seq.{getD-set-same, getD-set-other, length-paste, take-length}
@@ -23,9 +25,9 @@ use Rattle.rules.specs.Pool.{Entry}
 use Rattle.rules.specs.View.{bit, times, oldIn}
 use Rattle.rules.specs.Sound.{Each, EntryInRange}
 use Rattle.tables.specs.Lie.{recordNumber}
-use Rattle.laws.proofs.Tests.{eqb-cases}
+use Rattle.laws.proofs.Tests.{eqb-cases, below-or-not}
 use Rattle.laws.proofs.Entries.{times-cons, times-one, oldIn-absent, oldIn-here, oldIn-there}
-use Rattle.clauses.specs.Entered.{Noted, entered, enteredAll}
+use Rattle.clauses.specs.Entered.{Noted, placeOf, entered, enteredAll}
 use Rattle.clauses.specs.Inspected.{valued}
 use Rattle.clauses.proofs.Tests.{Tells, most-tells, less-tells, _and_, every-tells}
 
@@ -43,6 +45,18 @@ raised xs i by j h =
     (eqb-cases i j)
 
 -- ---- entries
+
+-- each link has its own place
+pub own-place : (l : ℕ) → l < 8208 → placeOf l ≡ l
+unfolding placeOf
+own-place l low = ap (λ b. cond b l 0) (lt-ltb l 8208 low)
+
+pub no-place : (l : ℕ) → 8208 ≤ l → placeOf l ≡ 0
+unfolding placeOf
+no-place l past = ap (λ b. cond b l 0) (le-ltb l 8208 past)
+
+pub place-low : (l : ℕ) → placeOf l < 8208
+place-low l = ⊎-elim (λ low. omega (arith, own-place l low)) (λ past. omega (arith, no-place l past)) (below-or-not l 8208)
 
 pub record Sized (x : Noted) : Type 0 where
   pub seen : length (x .seen) ≡ 8208
@@ -74,8 +88,8 @@ module _ (s : Sizes) (by : ℕ) where
   -- ---- entries in range, each of which has its own place
 
   module _ (low : links s ≤ 8208) (l : LinkNumber) where
-    own-place : (e : Entry) → EntryInRange s e → e .link .0 % 8208 ≡ e .link .0
-    own-place e h = mod-eq-of-lt (omega (arith, h .link))
+    stands : (e : Entry) → EntryInRange s e → placeOf (e .link .0) ≡ e .link .0
+    stands e h = own-place (e .link .0) (omega (arith, h .link))
 
     pub seen-entered : (xs : List Entry) (x : Noted) → Sized x → Each (EntryInRange s) xs
         → getD (enter xs x .seen) l.0 0 ≡ getD (x .seen) l.0 0 + times l xs * by
@@ -83,7 +97,7 @@ module _ (s : Sizes) (by : ℕ) where
     seen-entered [] x h range = omega arith
     seen-entered (e ∷ xs) x h range =
         seen-entered xs (enter-one e x) (sized-one e x h) (range .1)
-        ∙ omega (arith, raised (x .seen) (e .link .0 % 8208) by l.0 (omega arith), ap (λ (i : ℕ). bit (eqb i l.0) * by) (own-place e (range .0)))
+        ∙ omega (arith, raised (x .seen) (placeOf (e .link .0)) by l.0 (omega (arith, place-low (e .link .0), h .seen)), ap (λ (i : ℕ). bit (eqb i l.0) * by) (stands e (range .0)))
 
     pub last-entered : (xs : List Entry) (x : Noted) → Sized x → Each (EntryInRange s) xs → times l xs ≤ 1
         → recordNumber (getD (enter xs x .last) l.0 0) ≡ oldIn l xs (recordNumber (getD (x .last) l.0 0))
@@ -95,7 +109,7 @@ module _ (s : Sizes) (by : ℕ) where
         (λ same.
         oldIn-absent l xs _ (omega (arith, times-cons l e xs, times-one l e (same .0)))
         ∙ ap (λ (k : ℕ). recordNumber (getD (set (x .last) place (e .old .0)) k 0)) (sym (own ∙ same .0))
-        ∙ ap recordNumber (getD-set-same (x .last) place (e .old .0) 0 (omega (arith, h .last)))
+        ∙ ap recordNumber (getD-set-same (x .last) place (e .old .0) 0 (omega (arith, h .last, place-low (e .link .0))))
         ∙ sym (oldIn-here l e xs before (same .0)))
         (λ other.
         ap (λ (n : ℕ). oldIn l xs (recordNumber n)) (getD-set-other (x .last) place l.0 (e .old .0) 0 (λ k. other .0 (sym own ∙ sym k)))
@@ -103,10 +117,10 @@ module _ (s : Sizes) (by : ℕ) where
         (eqb-cases (e .link .0) l.0)
       where
         place : ℕ
-        place = e .link .0 % 8208
+        place = placeOf (e .link .0)
 
         own : place ≡ e .link .0
-        own = own-place e (range .0)
+        own = stands e (range .0)
 
         before : RecordNumber
         before = recordNumber (getD (x .last) l.0 0)

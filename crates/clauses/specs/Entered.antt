@@ -1,12 +1,13 @@
 -- What the check notes of each link, entry by entry. There is a place for each of 8,208 links, the most that a pool has; a number past them falls on the
 -- place of another, and then the test has failed.
 --     Noted                  what is noted so far
+--     placeOf                the place of a link
 --     entered, enteredAll    an entry is noted, and a list of entries
 --     RoomFor                what was seen can rise by so much and still fits 32 bits
 --     once, outstanding      by how much an entry of the history raises what was seen of its link; an entry of a log raises it by 1
 -- Assumes nothing.
-use Prim.Native.Nat.{ℕ, _+_, _%_, _≤_}
-use mathlib.Core.Bool.{Bool, _&&_}
+use Prim.Native.Nat.{ℕ, _+_, _≤_}
+use mathlib.Core.Bool.{Bool, cond, _&&_}
 use mathlib.Core.List.{List, [], _∷_}
 use lib.Dec.{leb, ltb}
 use lib.ListN.{getD, set}
@@ -33,9 +34,13 @@ once = 131072
 abbrev pub outstanding : ℕ
 outstanding = 131073
 
+-- a number past the last place has the first
+unfoldable pub placeOf : ℕ → ℕ
+placeOf l = cond (ltb l 8208) l 0
+
 unfoldable pub entered : (links records by : ℕ) → Entry → Noted → Noted
 entered links records by e x =
-    let place : ℕ = e .link .0 % 8208 in
+    let place : ℕ = placeOf (e .link .0) in
     record {
       ok = x .ok && ltb (e .link .0) links && leb (e .old .0) records;
       seen = set (x .seen) place (getD (x .seen) place 0 + by);

@@ -17,7 +17,7 @@ use lib.ListN.{length, getD, set, length-set}
 use Rattle.rules.specs.Pool.{Entry}
 use Rattle.tables.specs.Lie.{entries}
 use Rattle.tables.proofs.Entered.{entryIn, length-entries}
-use Rattle.clauses.specs.Entered.{Noted, entered, enteredAll}
+use Rattle.clauses.specs.Entered.{Noted, placeOf, entered, enteredAll}
 use Rattle.clauses.specs.Inspected.{valued}
 use Rattle.inspect.proofs.Most.{Most, most-more, most-raised}
 use Rattle.tables.proofs.Rooms.{entries-next}
@@ -80,7 +80,7 @@ module _ (links records by : ℕ) where
 
   -- entry k of a room, behind the k entries before it
   pub entered-next : (list : List ℕ) (k : ℕ) (start : Noted) {x : Noted} {i place : ℕ}
-      → enteredAll links records by (entries k list) start ≡ x → i ≡ k * 2 → place ≡ getD list i 0 % 8208
+      → enteredAll links records by (entries k list) start ≡ x → i ≡ k * 2 → place ≡ placeOf (getD list i 0)
       → enteredAll links records by (entries (suc k) list) start
       ≡ record {
         ok = x .ok && ltb (getD list i 0) links && leb (getD list (i + 1) 0) records;

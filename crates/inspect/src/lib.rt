@@ -4,6 +4,7 @@
 //     inspect                                    the check, on tables of exact lengths
 //     at_most, all_zero                          numbers that are at most another, and that are 0
 //     phase_fits, counted_to, uncleared_from     the collector's record, and where it parts the history
+//     place_of                                   the place of a link
 //     enter, enter_logs, take_values             the entries of a list, of all logs, and the links' values are noted
 //     marks_match                                each changed mark against what was seen of its link
 //     tally_link, tally_fours, tally_links       how many links count for each record
@@ -17,7 +18,7 @@ use tables::place::wide;
 ghost use mathlib.Core.Path.{_≡_};
 ghost use mathlib.Core.Bool.{true, _&&_};
 ghost use mathlib.Core.List.{List, flatten};
-ghost use Prim.Native.Nat.{ℕ, _+_, _*_, _%_, _≤_};
+ghost use Prim.Native.Nat.{ℕ, _+_, _*_, _%_, _≤_, _<_};
 ghost use lib.Dec.{leb};
 ghost use lib.ListN.{length, replicate};
 ghost use Rattle.rules.specs.Size.{inRange, links};
@@ -26,7 +27,7 @@ ghost use Rattle.tables.specs.Tables.{Tables, lent};
 ghost use Rattle.tables.specs.Lie.{entries, room, logsIn};
 ghost use Rattle.tables.specs.Known.{Exact};
 ghost use Rattle.clauses.specs.IsSound.{every, isZero};
-ghost use Rattle.clauses.specs.Entered.{RoomFor, enteredAll};
+ghost use Rattle.clauses.specs.Entered.{RoomFor, placeOf, enteredAll};
 ghost use Rattle.clauses.specs.Tallied.{raised, tallied};
 ghost use Rattle.clauses.specs.Inspected.{phaseFits, countedTo, unclearedFrom, paddedLogs, valued, marksMatch, countsMatch, linksFit, numbersFit, inspected};
 ghost use Rattle.inspect.specs.Lent.{numbersOn, linksOn, LinksToFit};
@@ -91,6 +92,16 @@ fn uncleared_from(c: Collector, entries: u16) -> u16
     entries
 }
 
+// The place of a link. A number past the last has the first, and then the test has failed.
+fn place_of(link: u16) -> usize
+    ensures { λ x. ⌜ (x ≡ placeOf link) × (x < 8208) ⌝ }
+{
+    if link < 8208 {
+        return wide(link);
+    }
+    0
+}
+
 // The entries of a list are in range; each raises what was seen of its link, and is the last that is known of it.
 fn enter(
     seen: &mut [u32; 8208],
@@ -111,7 +122,7 @@ fn enter(
         let link = list[i];
         let old = list[i + 1];
         ok = ok & (link < links) & (old <= records);
-        let place = wide(link % 8208);
+        let place = place_of(link);
         seen[place] = seen[place] + by;
         last[place] = old;
         i += 2;

@@ -46,8 +46,8 @@ mul-old c = search needs
 shared-slice-read-old : tie.Need-shared-slice-read-old Inv-loop μ-loop
 shared-slice-read-old c = search needs
 
-wide-requires : tie.Need-wide-requires Inv-loop μ-loop
-wide-requires c κs = search needs
+place-of-requires : tie.Need-place-of-requires Inv-loop μ-loop
+place-of-requires c κs = search needs
 
 mul-seen : tie.Need-mul-seen Inv-loop μ-loop
 mul-seen c = search needs
@@ -64,7 +64,7 @@ add-seen c =
     let k = at .inv .0 in
     let b = start .pre .0 in
     let most : Most (b + k * by) (at .seen) = entries-most _ _ by k list _ b (at .inv .3) (start .pre .1) in
-    omega (arith, start .pre .2, most-at (at .seen) (c .before .wide .result) most, mul-le-mul-right by (let low : suc k ≤ length list = omega arith in low), suc-mul k by)
+    omega (arith, start .pre .2, most-at (at .seen) (c .before .place-of .result) most, mul-le-mul-right by (let low : suc k ≤ length list = omega arith in low), suc-mul k by)
 
 mul-seen-2 : tie.Need-mul-seen-2 Inv-loop μ-loop
 mul-seen-2 c = search needs
@@ -89,7 +89,7 @@ loop-again c =
     let at = c .before .before .before .before .before .loop in
     let start = c .before .before .before .before .before .before .before in
     let k = at .inv .0 in
-    (suc k, omega arith, omega arith, entered-next _ _ _ (start .args .list .now) k _ (at .inv .3) (at .inv .1) (c .before .wide .ensures))
+    (suc k, omega arith, omega arith, entered-next _ _ _ (start .args .list .now) k _ (at .inv .3) (at .inv .1) (c .before .place-of .ensures .0))
 
 returns : tie.Need-returns Inv-loop μ-loop
 returns c n e =
@@ -112,7 +112,7 @@ enter-spec =
     add-old
     mul-old
     shared-slice-read-old
-    wide-requires
+    place-of-requires
     mul-seen
     element-copy-out-seen
     add-seen
