@@ -1,5 +1,3 @@
--- What the proofs of the program cite.
---     Moved     bytes that move to the front, one by one
+-- What the proof of the program cites.
 --     Turn      a turn of the program
-pub mod Moved
 pub mod Turn

@@ -1,16 +1,16 @@
 // `replay`: reads a trace from standard input to its end and prints document 01's lines, in constant memory.
 //     main          the arrays, and a turn for each read
-//     read_again    a read that is tried again where it was interrupted or would have had to wait
-//     read_more     such a read, behind what is left
-//     keep_rest     what is left of a part becomes the beginning of the next one
+//     read_more     a read, behind what is left
 //     print         a text on standard output
 //     say_unended   the turns have run out
 // What is printed for the bytes that were read is `printed` of parts/specs/Printed.antt, a turn for each piece: what `part_text` puts into the buffer, and behind the
 // last part what `put_ending` does. docs/DECISIONS.md says how far a theorem reaches here.
 use fields::Reader;
 use fields::Stage;
+use input::Got;
+use input::keep_rest;
+use input::read_behind;
 use libc::STDERR_FILENO;
-use libc::STDIN_FILENO;
 use libc::STDOUT_FILENO;
 use parts::Progress;
 use parts::part_text;
@@ -20,64 +20,18 @@ use rules::Sizes;
 use trace::Stand;
 ghost use Prim.Native.Nat.{_≤_};
 ghost use lib.ListN.{length};
-ghost use Rattle.replay.specs.Input.{Reads, Keeps};
+ghost use Rattle.input.specs.Input.{Reads};
 
-// What a read brought: whether it did not fail, and how many bytes there are now.
-struct Got {
-    is_read: bool,
-    n: usize,
-}
-
-// Whether a read failed in passing: a signal interrupted it, or nothing is there yet on an input that does not wait.
-fn is_passing(error: i32) -> bool {
-    (error == libc::EINTR) | (error == libc::EAGAIN)
-}
-
-// Reads once; a read that failed in passing is tried again, after others had their turn.
-fn read_again(buf: &mut [u8]) -> isize {
-    let mut tries = 1099511627776u64;
-    while tries > 0 {
-        tries -= 1;
-        let got = libc::read(STDIN_FILENO, buf);
-        if got >= 0 {
-            return got;
-        }
-        if !is_passing(os::errno()) {
-            return got;
-        }
-        libc::sched_yield();
-    }
-    -1
-}
-
-// Reads once, behind the `left` bytes that are left, and answers how many bytes there are now: no more where the input has ended. A read that fails is said on
-// standard error, and then nobody knows what follows.
+// A read that fails is said on standard error, and then nobody knows what follows.
 fn read_more(input: &mut [u8], left: usize) -> Got
     requires { ⌜ left ≤ length (now input) ⌝ }
     ensures { λ x. ⌜ Reads (now (input .entry)) left (x .n) (now (input .exit)) ⌝ }
 {
-    let got = read_again(&mut input[left..]);
-    if got < 0 {
+    let got = read_behind(input, left);
+    if !got.is_read {
         os::fail(b"replay: the trace can't be read");
     }
-    Got {
-        is_read: got >= 0,
-        n: left + io::count(got, &input[left..]),
-    }
-}
-
-// The bytes from one place up to another move to the front.
-fn keep_rest(input: &mut [u8], from: usize, to: usize)
-    requires { ⌜ from ≤ to ⌝ }
-    requires { ⌜ to ≤ length (now input) ⌝ }
-    ensures { λ _. ⌜ Keeps (now (input .entry)) from to (now (input .exit)) ⌝ }
-{
-    let size = to - from;
-    let mut i = 0;
-    while i < size {
-        input[i] = input[from + i];
-        i += 1;
-    }
+    got
 }
 
 // A write that fails is said on standard error, and no line is made up.

@@ -14,7 +14,7 @@ use Rattle.replay.proofs.main.Reads as reads
 use Rattle.replay.proofs.main.Lts as lts
 use Rattle.parts.proofs.part_text.Reads as part-text-reads
 use Rattle.parts.proofs.put_ending.Reads as put-ending-reads
-use Rattle.replay.proofs.keep_rest.Reads as keep-rest-reads
+use Rattle.input.proofs.keep_rest.Reads as keep-rest-reads
 use Rattle.replay.proofs.print.Reads as print-reads
 use Rattle.replay.proofs.read_more.Reads as read-more-reads
 

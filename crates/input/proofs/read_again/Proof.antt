@@ -1,10 +1,10 @@
--- `replay::read_again` does nothing undefined, and ends: its tries are counted down. Assumes nothing.
+-- `input::read_again` does nothing undefined, and ends: its tries are counted down. Assumes nothing.
 use mathlib.Core.Path.{_≡_, refl}
 use native.Mathlib.Omega.{arith}
 use borrow.Author.Needs.{needs}
 use lib.ListN.{length}
-use Rattle.replay.proofs.read_again.Statement.{statement}
-use Rattle.replay.proofs.read_again.Tie as tie
+use Rattle.input.proofs.read_again.Statement.{statement}
+use Rattle.input.proofs.read_again.Tie as tie
 
 abbrev Inv-loop : tie.InvT-loop
 Inv-loop buf₀ tries₀ buf tries = length buf ≡ length buf₀

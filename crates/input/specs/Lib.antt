@@ -1,3 +1,3 @@
--- What the program's own functions say.
+-- What the functions say.
 --     Input     the bytes that have been read
 pub mod Input

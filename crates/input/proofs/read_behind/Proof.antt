@@ -1,14 +1,14 @@
--- `replay::read_more` meets its contract. Assumes nothing.
+-- `input::read_behind` meets its contract. Assumes nothing.
 use Prim.Native.Nat.{_-_}
 use borrow.Rule.Slice.PartMut.{take-put}
 use lib.ListN.{length}
 use borrow.Author.Needs.{needs}
-use Rattle.replay.proofs.read_more.Statement.{statement}
-use Rattle.replay.proofs.read_more.Tie as tie
-use Rattle.replay.proofs.read_more.Reads as reads
-use Rattle.replay.proofs.read_more.Lts as lts
+use Rattle.input.proofs.read_behind.Statement.{statement}
+use Rattle.input.proofs.read_behind.Tie as tie
+use Rattle.input.proofs.read_behind.Reads as reads
+use Rattle.input.proofs.read_behind.Lts as lts
 use Rattle.io.proofs.count.Reads as count-reads
-use Rattle.replay.proofs.read_again.Reads as read-again-reads
+use Rattle.input.proofs.read_again.Reads as read-again-reads
 
 sub-read-again : tie.Need-sub-read-again
 sub-read-again c = search needs
@@ -22,12 +22,6 @@ part-read-again-end c = search needs
 read-again-requires : tie.Need-read-again-requires
 read-again-requires c κs = search needs
 
-slice-aggregate-fail : tie.Need-slice-aggregate-fail
-slice-aggregate-fail c = search needs
-
-fail-requires : tie.Need-fail-requires
-fail-requires c κs = search needs
-
 sub-count : tie.Need-sub-count
 sub-count c = search needs
 
@@ -40,35 +34,33 @@ part-count-end c = search needs
 count-requires : tie.Need-count-requires
 count-requires c κs = search needs
 
-add-t17 : tie.Need-add-t17
-add-t17 c = search needs
+add-t13 : tie.Need-add-t13
+add-t13 c = search needs
 
 same-length : tie.Need-same-length
 same-length c = search needs
 
 returns : tie.Need-returns
 returns c =
-    let start = c .before .before .before .before .before .before .before .before .before in
+    let start = c .before .before .before .before .before .before .before .before in
     record {
       least = search needs;
       inside = search needs;
-      kept = take-put (start .args .left) (length (start .args .input .now) - start .args .left) (start .args .input .now) (c .before .before .before .before .before .before .read-again .last .0) (start .pre);
+      kept = take-put (start .args .left) (length (start .args .input .now) - start .args .left) (start .args .input .now) (c .before .before .before .before .before .read-again .last .0) (start .pre);
     }
 
-pub read-more-spec : {M : Type 1} → statement M
-read-more-spec =
+pub read-behind-spec : {M : Type 1} → statement M
+read-behind-spec =
     tie.close
     (tie.spec
     sub-read-again
     part-read-again-start
     part-read-again-end
     read-again-requires
-    slice-aggregate-fail
-    fail-requires
     sub-count
     part-count-start
     part-count-end
     count-requires
-    add-t17
+    add-t13
     same-length
     returns)

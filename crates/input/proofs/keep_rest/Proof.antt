@@ -1,12 +1,12 @@
--- `replay::keep_rest` meets its contract. The loop's invariant: so many bytes have been moved. Assumes nothing.
+-- `input::keep_rest` meets its contract. The loop's invariant: so many bytes have been moved. Assumes nothing.
 use Prim.Native.Nat.{_-_, _≤_}
 use mathlib.Core.Path.{_≡_, refl}
 use native.Mathlib.Omega.{arith}
-use Rattle.replay.proofs.Moved.{Moving, moving-starts, moving-on, moving-ends}
-use Rattle.replay.proofs.keep_rest.Statement.{statement}
-use Rattle.replay.proofs.keep_rest.Tie as tie
-use Rattle.replay.proofs.keep_rest.Reads as reads
-use Rattle.replay.proofs.keep_rest.Lts as lts
+use Rattle.input.proofs.Moved.{Moving, moving-starts, moving-on, moving-ends}
+use Rattle.input.proofs.keep_rest.Statement.{statement}
+use Rattle.input.proofs.keep_rest.Tie as tie
+use Rattle.input.proofs.keep_rest.Reads as reads
+use Rattle.input.proofs.keep_rest.Lts as lts
 
 abbrev Inv-loop : tie.InvT-loop
 Inv-loop input₀ from to size i₀ input i = (i ≤ size) × (size ≡ to - from) × Moving input₀ from i input

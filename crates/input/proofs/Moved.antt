@@ -9,7 +9,7 @@ use native.Mathlib.Omega.{arith}
 use native.Mathlib.Numerals.{add-one}
 use lib.ListN.{length, getD, set, take, drop, length-set, length-drop}
 use lib.Seq.{take-suc, take-suc-set, getD-set-other, getD-drop}
-use Rattle.replay.specs.Input.{Keeps}
+use Rattle.input.specs.Input.{Keeps}
 
 pub record Moving (before : List ℕ) (from i : ℕ) (moved : List ℕ) : Type 0 where
   pub long : length moved ≡ length before
