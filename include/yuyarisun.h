@@ -6,16 +6,17 @@
  *     yuyarisun_pool_make, .._collect            one line for an event on such a pool
  *     yuyarisun_pool_fresh, _sound, _free_records
  *     yuyarisun_pool_events, _trace              many events at once, and a whole trace
+ *     yuyarisun_pool_report                      the numbers of each closed cycle of a trace
  *     yuyarisun_put_make, .._collect             an event as the bytes that these take
  *     yuyarisun_join_parts                       the parts of a trace, one for each worker and one for the collector, joined
- *     yuyarisun_make, .._trace, _join            the same calls as the library has them, each table a pointer and a length
+ *     yuyarisun_make, .._trace, _report, _join   the same calls as the library has them, each table a pointer and a length
  *
  * Who owns what. The caller owns every table and lends it for the time of a call: the library allocates nothing, frees nothing, keeps no pointer and has
  * no state of its own. Two calls on two pools may so run at once on two threads; two calls on one pool may not.
  *
  * What a caller sees to, since no call can: that a table's pointer is not null, is aligned as a uint16_t is and points to as many numbers as the length
- * beside it says, and that no two tables, and none of the numbers that a call writes, overlap; the same of the bytes and the answers that many events and
- * traces take. All the rest a call sees to: sizes out of range and other lengths (1) and tables in which no sound pool lies (2) are refused, and a refused
+ * beside it says, and that no two tables, and none of the numbers that a call writes, overlap; the same of the bytes, the answers and the cycles' numbers that many
+ * events and traces take. All the rest a call sees to: sizes out of range and other lengths (1) and tables in which no sound pool lies (2) are refused, and a refused
  * call changes nothing but puts 0 into its value. Many events and traces stop at a field that is refused, and what was done before it stays done.
  */
 #ifndef YUYARISUN_H
@@ -264,6 +265,13 @@ uint16_t yuyarisun_events(YUYARISUN_LENT, const uint8_t *bytes, size_t bytes_len
 uint16_t yuyarisun_trace(YUYARISUN_LENT_TABLES, const uint8_t *bytes, size_t bytes_length, uint16_t *answers, size_t answers_length, size_t *events,
                          uint16_t *free_records, size_t *place);
 
+/* A report for each cycle of a whole trace. It does with the tables and the collector's record as yuyarisun_trace does, and answers the same, with the same
+ * *events, *free_records and *place. *cycles is how many cycles closed. Of each of them three numbers go into `numbers` in turn, as far as there is room for all three: the
+ * entries moved into the history in it, the records freed in it, and its net, the sum of all counts just after its close less that sum at its opening, which may be
+ * below nought. A cycle that is still open where the trace ends or is refused is none of them; what lies behind the last stays as it was. */
+uint16_t yuyarisun_report(YUYARISUN_LENT_TABLES, const uint8_t *bytes, size_t bytes_length, int64_t *numbers, size_t numbers_length, size_t *events,
+                          size_t *cycles, uint16_t *free_records, size_t *place);
+
 /* Joins the parts of a trace, one for each worker and one for the collector. They lie end to end in `parts`, and `lengths` has how long each is; the joined trace
  * goes into `out`. It has the first part's sizes field, then every event of every part once, byte for byte, by step number as a number, then its end field. So
  * parts_length bytes are always enough for it: its events are those of the parts, its sizes field is the first part's, and its end field is as long as that part's.
@@ -431,6 +439,34 @@ static inline yuyarisun_trace_answer yuyarisun_pool_trace(yuyarisun_pool *pool, 
     answer.number = yuyarisun_trace(YUYARISUN_TABLES_OF(pool), YUYARISUN_COLLECTOR_OF(pool), bytes_length == 0 ? &no_byte : bytes, bytes_length,
                                     answers_length == 0 ? &no_answer : answers, answers_length, &answer.events, &answer.free_records, &answer.place);
     if (answer.number == YUYARISUN_DONE || answer.place > 0) /* whatever is refused behind the sizes field has another place */
+        pool->sizes = yuyarisun_sizes_of_trace(bytes, bytes_length);
+    return answer;
+}
+
+/* How long `numbers` has to be to hold the three numbers of every cycle of a trace of so many bytes: a cycle has five steps or more, and a step 7 bytes. */
+#define YUYARISUN_CYCLES_LENGTH(bytes_length) (3 * ((size_t)(bytes_length) / 35))
+
+/* What a report is answered: what the whole trace is, and how many cycles closed. */
+typedef struct yuyarisun_report_answer {
+    uint16_t number;
+    size_t place;
+    size_t events;
+    size_t cycles;
+    uint16_t free_records;
+} yuyarisun_report_answer;
+
+/* yuyarisun_report on a pool, as yuyarisun_pool_trace: an accepted sizes field makes pool->sizes the trace's. `bytes` and `numbers` may be null where their length
+ * is 0. */
+static inline yuyarisun_report_answer yuyarisun_pool_report(yuyarisun_pool *pool, const uint8_t *bytes, size_t bytes_length, int64_t *numbers,
+                                                            size_t numbers_length)
+{
+    yuyarisun_report_answer answer;
+    const uint8_t no_byte = 0;
+    int64_t no_number = 0;
+    answer.number = yuyarisun_report(YUYARISUN_TABLES_OF(pool), YUYARISUN_COLLECTOR_OF(pool), bytes_length == 0 ? &no_byte : bytes, bytes_length,
+                                     numbers_length == 0 ? &no_number : numbers, numbers_length, &answer.events, &answer.cycles, &answer.free_records,
+                                     &answer.place);
+    if (answer.number == YUYARISUN_DONE || answer.place > 0)
         pool->sizes = yuyarisun_sizes_of_trace(bytes, bytes_length);
     return answer;
 }

@@ -243,6 +243,54 @@ static int traced(void)
     return 0;
 }
 
+/* Record 1 leads to 2 and to 3, which are counted, unlinked and freed: two cycles, and an open one. */
+static int reported(void)
+{
+    static const int64_t expected[6] = {2, 0, 2, 2, 2, -2};
+    uint8_t trace[13 + 30 * YUYARISUN_EVENT_MOST_BYTES + 7] = {0x01, 0, 10, 0, 3, 0, 2, 0, 1, 0, 3, 0, 0};
+    uint8_t end[7] = {0x7f, 0, 4, 0, 0, 0, 0};
+    uint32_t step = 0;
+    uint8_t *at = trace + 13;
+    for (uint8_t r = 0; r < 3; r++)
+        at = yuyarisun_put_make(at, ++step, 0, r);
+    for (uint8_t f = 0; f < 2; f++)
+        at = yuyarisun_put_store(at, ++step, 0, 0, f, (uint8_t)(f + 1));
+    at = yuyarisun_put_drop(yuyarisun_put_drop(at, step + 1, 0, 1), step + 2, 0, 2);
+    for (step += 2; step < 16;)
+        at = yuyarisun_put_collect(at, ++step);
+    for (uint8_t f = 0; f < 2; f++)
+        at = yuyarisun_put_store(at, ++step, 0, 0, f, 1);
+    while (step < 30)
+        at = yuyarisun_put_collect(at, ++step);
+    end[6] = (uint8_t)step;
+    memcpy(at, end, sizeof end);
+    const size_t length = (size_t)(at + sizeof end - trace);
+
+    yuyarisun_pool pool;
+    int64_t numbers[8];
+    HOLD(YUYARISUN_CYCLES_LENGTH(length) >= 6 && YUYARISUN_CYCLES_LENGTH(34) == 0 && YUYARISUN_CYCLES_LENGTH(70) == 6);
+    HOLD(yuyarisun_lay(&pool, yuyarisun_sizes_of_trace(trace, length), block, sizeof block / sizeof *block) == YUYARISUN_DONE);
+    memset(block, 0xff, sizeof block);
+    memset(numbers, 0xff, sizeof numbers);
+    yuyarisun_report_answer whole = yuyarisun_pool_report(&pool, trace, length, numbers, sizeof numbers / sizeof *numbers);
+    HOLD(whole.number == YUYARISUN_DONE && whole.place == 0 && whole.events == 30 && whole.cycles == 2 && whole.free_records == 2);
+    HOLD(memcmp(numbers, expected, sizeof expected) == 0 && numbers[6] == -1 && numbers[7] == -1);
+    HOLD(pool.collector.phase == 1 && pool.collector.closed == 2 && yuyarisun_pool_sound(&pool) && yuyarisun_pool_free_records(&pool) == 2);
+
+    /* Room for one and two thirds; none; and a trace that is refused in its open cycle. */
+    memset(numbers, 0xff, sizeof numbers);
+    whole = yuyarisun_pool_report(&pool, trace, length, numbers, 5);
+    HOLD(whole.number == YUYARISUN_DONE && whole.cycles == 2 && memcmp(numbers, expected, 3 * sizeof *numbers) == 0 && numbers[3] == -1 && numbers[4] == -1);
+    HOLD(yuyarisun_pool_report(&pool, trace, length, NULL, 0).cycles == 2);
+    whole = yuyarisun_pool_report(&pool, trace, length - 7, numbers, sizeof numbers / sizeof *numbers);
+    HOLD(whole.number == YUYARISUN_STOPS_SHORT && whole.place == length - 7 && whole.events == 30 && whole.cycles == 2 && whole.free_records == 0);
+    HOLD(yuyarisun_pool_report(&pool, NULL, 0, NULL, 0).number == YUYARISUN_STOPS_SHORT && pool.sizes.n == 3);
+    pool.used.length--;
+    whole = yuyarisun_pool_report(&pool, trace, length, numbers, sizeof numbers / sizeof *numbers);
+    HOLD(whole.number == YUYARISUN_WRONG_SIZE && whole.place == 0 && whole.events == 0 && whole.cycles == 0 && pool.collector.closed == 2);
+    return 0;
+}
+
 static int refused(yuyarisun_join_answer answer, uint16_t number, size_t place)
 {
     return answer.number == number && answer.length == 0 && answer.place == place;
@@ -297,5 +345,5 @@ static int joined(void)
 
 int main(void)
 {
-    return words() || laid_out() || named() || board() || many() || traced() || joined();
+    return words() || laid_out() || named() || board() || many() || traced() || reported() || joined();
 }

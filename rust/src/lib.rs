@@ -10,6 +10,7 @@
 //! - [`Collector`] the collector's own record: its phase, its position, how many cycles have closed
 //! - [`Tables`], [`Lent`]  the tables of a pool in the open, and the checked calls on them
 //! - [`replay()`]  a whole trace from its bytes, on tables of its own; [`Field`] for those who write one
+//! - [`report()`]  the numbers of each of its cycles that closed: what it took, freed and left counted
 //! - [`join()`]    the parts of a trace, one for each worker and one for the collector, joined to it
 //!
 //! ```
@@ -35,7 +36,8 @@
 //! ```
 
 // The floors of the crate, from the top down: a module uses modules of lower floors alone, and raw alone has unsafe code. tests/floors.rs holds them to it.
-//     replay             a trace replayed on tables of its own
+//     replay, report     a trace replayed, and its cycles reported, on tables of its own
+//     own                these tables, and how a trace ends on them
 //     pool               a pool that owns its tables
 //     trace              what is answered to events and to traces, and the checked calls
 //     lent               tables that are in the open
@@ -51,10 +53,12 @@
 mod event;
 mod join;
 mod lent;
+mod own;
 mod pool;
 mod raw;
 mod refusal;
 mod replay;
+mod report;
 mod sizes;
 mod trace;
 
@@ -64,8 +68,9 @@ pub use lent::Lent;
 pub use pool::Pool;
 pub use refusal::Refusal;
 pub use replay::{replay, Replay};
+pub use report::{report, Report};
 pub use sizes::{Collector, Sizes, Tables};
-pub use trace::{answers_in, answers_length, Answer, Stop, Whole};
+pub use trace::{answers_in, answers_length, cycles_in, cycles_length, Answer, Cycle, Reported, Stop, Whole};
 
 /// The examples of the page for newcomers are tried with those of the crate.
 #[cfg(doctest)]

@@ -1,7 +1,7 @@
 //! The static library on slices and numbers, and all unsafe code of this crate.
 //!
-//! - `event`, `fresh`, `is_sound`, `free_records`, `events`, `trace`  the calls that take any tables,
-//!   each answered in numbers
+//! - `event`, `fresh`, `is_sound`, `free_records`, `events`, `trace`, `report`  the calls that take any
+//!   tables, each answered in numbers
 //! - `join`  the call that takes any parts of a trace, answered in numbers
 //! - `Sound`  tables that are known to be a sound pool's, and the event that checks nothing
 //!
@@ -9,7 +9,7 @@
 //! to, and no two of the things lent may overlap. That is all that the public functions ask for:
 //! they are proved to take any sizes, any tables, any event and any bytes. Here the tables are the
 //! `Vec`s of one `Tables`, each lent with its own length, which are alive, aligned and apart; so are
-//! the collector's record and the slices of bytes and of answers, which are behind other references.
+//! the collector's record and the slices of bytes and of numbers, which are behind other references.
 //! An exported function keeps no pointer and does not unwind.
 
 #![allow(unsafe_code)]
@@ -72,6 +72,11 @@ lent_tables! { *mut u16:
         [], .., phase: *mut u16, position: *mut u16, closed: *mut u16,
         bytes: *const u8, bytes_length: usize, answers: *mut u16, answers_length: usize,
         events: *mut usize, free: *mut u16, place: *mut usize
+    ) -> u16;
+    fn yuyarisun_report(
+        [], .., phase: *mut u16, position: *mut u16, closed: *mut u16,
+        bytes: *const u8, bytes_length: usize, numbers: *mut i64, numbers_length: usize,
+        events: *mut usize, cycles: *mut usize, free: *mut u16, place: *mut usize
     ) -> u16;
 }
 
@@ -242,6 +247,37 @@ pub(crate) fn trace(
         )
     };
     Ended { number, events, free, place }
+}
+
+/// A report of a whole trace, on any tables: how it ended, and how many cycles closed.
+pub(crate) fn report(
+    tables: &mut Tables,
+    collector: &mut Collector,
+    bytes: &[u8],
+    numbers: &mut [i64],
+) -> (Ended, usize) {
+    let (mut events, mut cycles, mut free, mut place) = (0, 0, 0, 0);
+    // SAFETY: as in `events`, with the cycles' numbers in the place of the answers.
+    let number = unsafe {
+        lend_tables!(
+            yuyarisun_report,
+            [],
+            tables,
+            as_mut_ptr,
+            &mut collector.phase,
+            &mut collector.position,
+            &mut collector.closed,
+            bytes.as_ptr(),
+            bytes.len(),
+            numbers.as_mut_ptr(),
+            numbers.len(),
+            &mut events,
+            &mut cycles,
+            &mut free,
+            &mut place
+        )
+    };
+    (Ended { number, events, free, place }, cycles)
 }
 
 /// How many of the marks are 0.

@@ -3,9 +3,8 @@
 use std::fmt;
 
 use crate::event::Record;
-use crate::lent::Lent;
+use crate::own::{ending, last_line, tables_for};
 use crate::pool::Pool;
-use crate::sizes::{Collector, Sizes, Tables};
 use crate::trace::{answers_in, answers_length, Answer, Stop};
 
 /// A trace, replayed on tables of its own. It prints as the program `replay` does, which takes sizes
@@ -21,7 +20,7 @@ pub struct Replay {
 
 /// Replays a trace on tables that are made for the sizes that it begins with, which may be all that
 /// a pool has. Whoever wants the tables of a trace that is refused lends them, to
-/// [`Lent::trace`].
+/// [`Lent::trace`](crate::Lent::trace).
 ///
 /// ```
 /// use yuyarisun::{replay, Event, Field, Refusal, Sizes};
@@ -43,19 +42,12 @@ pub struct Replay {
 /// # Ok::<(), yuyarisun::Stop>(())
 /// ```
 pub fn replay(bytes: &[u8]) -> Replay {
-    // Of sizes that are out of range, or not there, no tables are needed: the trace is refused for
-    // it before any is touched.
-    let sizes = Sizes::of_trace(bytes).filter(|sizes| sizes.in_range());
-    let tables = sizes.map_or_else(Tables::default, Tables::zeros);
-    let sizes = sizes.unwrap_or(Sizes { n: 0, k: 0, w: 0, r: 0, b: 0 });
-    let mut lent = Lent { sizes, tables, collector: Collector::default() };
+    let mut lent = tables_for(bytes);
     let mut numbers = vec![0; answers_length(bytes.len())];
-    let ending = lent.trace(bytes, &mut numbers);
-    let events = ending.map_or_else(|stop| stop.events, |whole| whole.events);
+    let ended = lent.trace(bytes, &mut numbers);
+    let events = ended.map_or_else(|stop| stop.events, |whole| whole.events);
     let answers = answers_in(&numbers).take(events).collect();
-    let pool =
-        |_| Pool::from_tables(lent.sizes, lent.tables, lent.collector).expect("a trace leaves a sound pool");
-    Replay { answers, ending: ending.map(pool) }
+    Replay { answers, ending: ending(lent, ended) }
 }
 
 impl fmt::Display for Replay {
@@ -67,9 +59,6 @@ impl fmt::Display for Replay {
                 Err(refusal) => writeln!(out, "{step} {} 0", refusal.number())?,
             }
         }
-        match &self.ending {
-            Ok(pool) => writeln!(out, "end {} {}", pool.free_records(), pool.collector().closed),
-            Err(stop) => writeln!(out, "refused {} {}", stop.refusal.number(), stop.place),
-        }
+        last_line(out, &self.ending)
     }
 }

@@ -1,5 +1,5 @@
-//! What is answered: to an event, to many events and to whole traces in bytes; and the checked calls
-//! that answer it, on tables that are in the open.
+//! What is answered: to an event, to many events and to whole traces in bytes, and of the cycles of a
+//! trace; and the checked calls that answer it, on tables that are in the open.
 
 use std::error::Error;
 use std::fmt;
@@ -54,6 +54,33 @@ pub struct Whole {
     pub free: u16,
 }
 
+/// The numbers of a closed cycle.
+#[derive(Clone, Copy, Debug, PartialEq, Eq, Hash)]
+pub struct Cycle {
+    /// The entries moved into the history.
+    pub taken: u64,
+    /// The records freed.
+    pub freed: u64,
+    /// The sum of all counts just after the close less that sum at the opening: below 0 where the links
+    /// that are counted have become fewer.
+    pub net: i32,
+}
+
+impl fmt::Display for Cycle {
+    fn fmt(&self, out: &mut fmt::Formatter) -> fmt::Result {
+        write!(out, "taken {} freed {} net {}", self.taken, self.freed, self.net)
+    }
+}
+
+/// A trace was reported on lent tables.
+#[derive(Clone, Copy, Debug, PartialEq, Eq, Hash)]
+pub struct Reported {
+    /// How many cycles closed.
+    pub cycles: usize,
+    /// How the trace ended; or where it is refused, and why.
+    pub ending: Result<Whole, Stop>,
+}
+
 /// How many numbers the answers of all events in so many bytes take at most: a number and a value
 /// for each, and no event field has fewer than 7 bytes.
 pub fn answers_length(bytes: usize) -> usize {
@@ -72,6 +99,32 @@ pub fn answers_length(bytes: usize) -> usize {
 /// ```
 pub fn answers_in(numbers: &[u16]) -> impl Iterator<Item = Answer> + '_ {
     numbers.chunks_exact(2).map(|pair| answered(pair[0], pair[1]))
+}
+
+/// How many numbers all cycles of a trace of so many bytes take at most: three for each, and a cycle has
+/// five steps or more of 7 bytes.
+pub fn cycles_length(bytes: usize) -> usize {
+    3 * (bytes / 35)
+}
+
+/// The cycles whose numbers [`Lent::report`] put into a slice, three for each. Of more than one call was
+/// answered, or had room for, it gives what happens to stand there, and panics at numbers that no cycle
+/// has.
+///
+/// ```
+/// use yuyarisun::{cycles_in, Cycle};
+///
+/// let cycles: Vec<_> = cycles_in(&[2, 0, 2, 3, 1, -2]).collect();
+/// assert_eq!(cycles, [Cycle { taken: 2, freed: 0, net: 2 }, Cycle { taken: 3, freed: 1, net: -2 }]);
+/// ```
+pub fn cycles_in(numbers: &[i64]) -> impl Iterator<Item = Cycle> + '_ {
+    const NO_CYCLE: &str = "numbers that no cycle has";
+    let count = |number: i64| u64::try_from(number).expect(NO_CYCLE);
+    numbers.chunks_exact(3).map(move |three| Cycle {
+        taken: count(three[0]),
+        freed: count(three[1]),
+        net: i32::try_from(three[2]).expect(NO_CYCLE),
+    })
 }
 
 /// What an event is answered, of its number and its value.
@@ -169,9 +222,46 @@ impl Lent {
     /// ```
     pub fn trace(&mut self, bytes: &[u8], answers: &mut [u16]) -> Result<Whole, Stop> {
         let ended = raw::trace(&mut self.tables, &mut self.collector, bytes, answers);
-        // Whatever is refused behind the sizes field has another place.
+        self.take_sizes(bytes, &ended);
+        whole(ended)
+    }
+
+    /// A report of a whole trace: it does with the tables, the sizes and the collector's record what
+    /// [`Lent::trace`] does, and puts the three numbers of each cycle that closes into `numbers` in turn,
+    /// as far as there is room for all three ([`cycles_length`] is enough for all). What lies behind the
+    /// last stays; [`cycles_in`] reads them. A cycle that is still open is none of them.
+    ///
+    /// ```
+    /// use yuyarisun::{cycles_in, Collector, Cycle, Event, Field, Lent, Sizes, Tables};
+    ///
+    /// let sizes = Sizes { n: 2, k: 1, w: 1, r: 1, b: 0 };
+    /// let mut trace = Vec::new();
+    /// Field::Sizes(sizes).put(&mut trace);
+    /// let mut events = vec![Event::Make { w: 0, r: 0 }, Event::Drop { w: 0, r: 0 }];
+    /// events.extend([Event::Collect; 8]);
+    /// for (step, event) in (1..).zip(events) {
+    ///     Field::Event { step, event }.put(&mut trace);
+    /// }
+    /// Field::End { count: 10 }.put(&mut trace);
+    ///
+    /// let mut lent = Lent { sizes, tables: Tables::zeros(sizes), collector: Collector::default() };
+    /// let mut numbers = [9; 4];
+    /// let reported = lent.report(&trace, &mut numbers);
+    /// assert_eq!((reported.cycles, reported.ending?.events), (1, 10));
+    /// assert_eq!(cycles_in(&numbers[..3]).next(), Some(Cycle { taken: 0, freed: 1, net: 0 }));
+    /// assert_eq!((numbers[3], lent.collector.phase), (9, 2));
+    /// # Ok::<(), yuyarisun::Stop>(())
+    /// ```
+    pub fn report(&mut self, bytes: &[u8], numbers: &mut [i64]) -> Reported {
+        let (ended, cycles) = raw::report(&mut self.tables, &mut self.collector, bytes, numbers);
+        self.take_sizes(bytes, &ended);
+        Reported { cycles, ending: whole(ended) }
+    }
+
+    /// The sizes of a trace that ended so become those of the tables, if they were accepted: whatever is
+    /// refused behind the sizes field has another place.
+    fn take_sizes(&mut self, bytes: &[u8], ended: &raw::Ended) {
         let accepted = ended.number == 0 || ended.place > 0;
         self.sizes = Sizes::of_trace(bytes).filter(|_| accepted).unwrap_or(self.sizes);
-        whole(ended)
     }
 }

@@ -3,8 +3,8 @@
 use std::error::Error;
 
 use yuyarisun::{
-    answers_in, answers_length, replay, Answer, Collector, Event, Field, Lent, Pool, Record, Refusal, Sizes,
-    Stop, Tables, Whole,
+    answers_in, answers_length, cycles_in, cycles_length, replay, report, Answer, Collector, Cycle, Event,
+    Field, Lent, Pool, Record, Refusal, Reported, Sizes, Stop, Tables, Whole,
 };
 
 const MAKE: Event = Event::Make { w: 0, r: 0 };
@@ -128,6 +128,75 @@ fn a_refused_trace_says_why_and_where() {
         "at byte 0: a size is out of its range, or a lent table has another length"
     );
     assert_eq!(error.source().map(|source| source.to_string()), Some(Refusal::WrongSize.to_string()));
+}
+
+/// Record 1 leads to 2 and to 3. The first cycle counts both links, the second neither, and frees 2 and
+/// 3; the third stays open.
+fn two_cycles() -> Vec<u8> {
+    let mut events: Vec<Event> = (0..3).map(|r| Event::Make { w: 0, r }).collect();
+    events.extend([0, 1].map(|f| Event::Store { w: 0, q: 0, f, r: f + 1 }));
+    events.extend([1, 2].map(|r| Event::Drop { w: 0, r }));
+    events.extend([Event::Collect; 9]);
+    events.extend([0, 1].map(|f| Event::Store { w: 0, q: 0, f, r: 1 }));
+    events.extend([Event::Collect; 11 + 4]);
+    trace(Sizes { n: 3, k: 2, w: 1, r: 3, b: 0 }, &events)
+}
+
+const CYCLES: [Cycle; 2] = [Cycle { taken: 2, freed: 0, net: 2 }, Cycle { taken: 2, freed: 2, net: -2 }];
+
+/// "The net may be below nought, and prints with a minus sign" (document 02, request 7).
+#[test]
+fn the_cycles_of_a_trace() {
+    let bytes = two_cycles();
+    let whole = report(&bytes);
+    assert_eq!(whole.cycles, CYCLES);
+    let lines = "cycle 1 taken 2 freed 0 net 2\ncycle 2 taken 2 freed 2 net -2\n";
+    assert_eq!(whole.to_string(), format!("{lines}end 2 2\n"));
+    assert_eq!(whole.ending, replay(&bytes).ending);
+
+    let cut = bytes.len() - 7;
+    let refused = report(&bytes[..cut]);
+    assert_eq!(refused.cycles, CYCLES);
+    assert_eq!(refused.to_string(), format!("{lines}refused 9 {cut}\n"));
+    assert_eq!(refused.ending, replay(&bytes[..cut]).ending);
+
+    assert_eq!(report(&whole_case()).to_string(), "cycle 1 taken 0 freed 1 net 0\nend 1 1\n");
+    assert_eq!(report(&[]).to_string(), "refused 9 0\n");
+    assert_eq!(report(&trace(Sizes { n: 65, ..SIZES }, &[MAKE, Event::Collect])).to_string(), "end 64 0\n");
+}
+
+/// The numbers go in as far as there is room for all three of a cycle; what lies behind them stays.
+#[test]
+fn the_room_for_cycles() {
+    let bytes = two_cycles();
+    let sizes = Sizes::of_trace(&bytes).unwrap();
+    let enough = cycles_length(bytes.len());
+    assert!(enough >= 6);
+    for room in 0..9 {
+        let mut lent = lent(sizes);
+        lent.tables.counts.fill(7);
+        let mut numbers = vec![9; room];
+        let whole = Reported { cycles: 2, ending: Ok(Whole { events: 33, free: 2 }) };
+        assert_eq!(lent.report(&bytes, &mut numbers), whole);
+        let put = (room / 3).min(2);
+        assert!(cycles_in(&numbers[..3 * put]).eq(CYCLES.into_iter().take(put)));
+        assert!(numbers[3 * put..].iter().all(|number| *number == 9));
+        assert!(lent.is_sound());
+    }
+    let mut other = lent(SIZES);
+    let before = other.clone();
+    let stop = Stop { refusal: Refusal::WrongSize, place: 0, events: 0 };
+    assert_eq!(other.report(&bytes, &mut [9; 6]), Reported { cycles: 0, ending: Err(stop) });
+    assert_eq!(other, before);
+}
+
+/// Every cycle of the shortest kind has its room.
+#[test]
+fn the_shortest_cycles() {
+    let bytes = trace(Sizes { n: 1, ..SIZES }, &[Event::Collect; 5 * 20]);
+    let reported = report(&bytes);
+    assert_eq!(reported.cycles, [Cycle { taken: 0, freed: 0, net: 0 }; 20]);
+    assert_eq!(reported.ending.unwrap().collector().closed, 20);
 }
 
 #[test]

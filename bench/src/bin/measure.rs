@@ -1,6 +1,7 @@
 //! Everything that is measured, and the table. `bench/run` builds what it needs and calls it so:
 //!
-//!     measure [--small] REPLAY SECOND BOEHM     the programs; BOEHM is `-` where it can't be had
+//!     measure [--small] REPLAY REPORT SECOND BOEHM
+//!                                               the programs; BOEHM is `-` where it can't be had
 //!
 //! Outputs are compared first; it ends with 1 if two differ, or if something does not run. With
 //! `--small` everything is done once on a small case, and the times say nothing.
@@ -13,7 +14,7 @@ use bench::{check, child, clock, counted, flat};
 use std::error::Error;
 use std::fs::{self, File};
 use std::hint::black_box;
-use std::io::{BufWriter, Read, Write};
+use std::io::{BufWriter, Read, Seek, SeekFrom, Write};
 use std::path::{Path, PathBuf};
 use std::{env, iter};
 use yuyarisun::{join_into, Answer, Event, Lent, Pool, Record, Sizes};
@@ -57,6 +58,7 @@ const SMALL: Scale = Scale {
 struct Bench {
     scale: &'static Scale,
     replay: PathBuf,
+    report: PathBuf,
     second: PathBuf,
     boehm: Option<PathBuf>,
     flat: PathBuf,
@@ -84,6 +86,25 @@ fn same_bytes(a: &Path, b: &Path) -> Done<bool> {
             return Ok(false);
         }
     }
+}
+
+/// The last line of a file.
+fn last_line(path: &Path) -> Done<Vec<u8>> {
+    let mut file = File::open(path)?;
+    let length = file.metadata()?.len();
+    file.seek(SeekFrom::Start(length.saturating_sub(100)))?;
+    let mut end = Vec::new();
+    file.read_to_end(&mut end)?;
+    let lines = end.split_inclusive(|byte| *byte == b'\n');
+    Ok(lines.last().ok_or("nothing is printed")?.to_vec())
+}
+
+fn an_event(seconds: f64, events: u32) -> String {
+    format!("{} an event", time(seconds / f64::from(events)))
+}
+
+fn instructions_an_event(count: u64, events: u32) -> String {
+    format!("{:.1} instructions an event", count as f64 / f64::from(events))
 }
 
 impl Bench {
@@ -118,19 +139,50 @@ impl Bench {
         Ok(())
     }
 
+    /// `report` and `replay` end a trace alike; a report has fewer lines.
+    fn compare_ends(&self, trace: &Path) -> Done {
+        let (reported, replayed) = (self.folder.join("printed.a"), self.folder.join("printed.b"));
+        child::seconds(&self.report, trace, &reported)?;
+        child::seconds(&self.replay, trace, &replayed)?;
+        if last_line(&reported)? != last_line(&replayed)? {
+            return Err("report and replay end a trace with different lines".into());
+        }
+        fs::remove_file(reported)?;
+        fs::remove_file(replayed)?;
+        Ok(())
+    }
+
+    /// The processor time of two programs on a trace, the best of some turns.
+    fn timed(&self, a: &Path, b: &Path, trace: &Path) -> Done<(f64, f64)> {
+        let nothing = Path::new("/dev/null");
+        let (mut this, mut that) = (f64::INFINITY, f64::INFINITY);
+        for _ in 0..self.scale.turns {
+            this = this.min(child::seconds(a, trace, nothing)?);
+            that = that.min(child::seconds(b, trace, nothing)?);
+        }
+        Ok((this, that))
+    }
+
     /// `replay` beside another program on a made trace.
     fn beside(&mut self, name: &str, program: PathBuf, kind: (&str, usize), events: u32) -> Done {
         let trace = self.trace(kind.1, events)?;
         self.compare(&self.replay, &program, &trace)?;
-        let nothing = Path::new("/dev/null");
-        let (mut this, mut that) = (f64::INFINITY, f64::INFINITY);
-        for _ in 0..self.scale.turns {
-            this = this.min(child::seconds(&self.replay, &trace, nothing)?);
-            that = that.min(child::seconds(&program, &trace, nothing)?);
-        }
-        let each = |seconds: f64| format!("{} an event", time(seconds / f64::from(events)));
+        let (this, that) = self.timed(&self.replay, &program, &trace)?;
         let what = format!("replay, {} trace, {} events, beside {name}", kind.0, grouped(events.into()));
-        self.table.row(&what, each(this), each(that), this / that);
+        self.table.row(&what, an_event(this, events), an_event(that, events), this / that);
+        Ok(())
+    }
+
+    /// `report` beside `replay`, on the same trace.
+    fn reports(&mut self) -> Done {
+        let events = self.scale.events;
+        for (kind, collects) in KINDS {
+            let trace = self.trace(collects, events)?;
+            self.compare_ends(&trace)?;
+            let (this, that) = self.timed(&self.report, &self.replay, &trace)?;
+            let what = format!("report, {kind} trace, {} events, beside replay", grouped(events.into()));
+            self.table.row(&what, an_event(this, events), an_event(that, events), this / that);
+        }
         Ok(())
     }
 
@@ -156,8 +208,23 @@ impl Bench {
             self.compare(&self.replay, &self.flat, &trace)?;
             let this = counted::whole(&self.replay, &trace, &self.folder)?;
             let that = counted::whole(&self.flat, &trace, &self.folder)?;
-            let each = |count: u64| format!("{:.1} instructions an event", count as f64 / f64::from(events));
+            let each = |count| instructions_an_event(count, events);
             let what = format!("replay, {kind}, {} events, beside flat-array Rust", grouped(events.into()));
+            self.table.row(&what, each(this), each(that), this as f64 / that as f64);
+        }
+        Ok(())
+    }
+
+    /// `report` beside `replay` in instructions.
+    fn report_instructions(&mut self) -> Done {
+        let events = self.scale.fewer_events;
+        for (kind, collects) in KINDS {
+            let trace = self.trace(collects, events)?;
+            self.compare_ends(&trace)?;
+            let this = counted::whole(&self.report, &trace, &self.folder)?;
+            let that = counted::whole(&self.replay, &trace, &self.folder)?;
+            let each = |count| instructions_an_event(count, events);
+            let what = format!("report, {kind} trace, {} events, beside replay", grouped(events.into()));
             self.table.row(&what, each(this), each(that), this as f64 / that as f64);
         }
         Ok(())
@@ -165,17 +232,18 @@ impl Bench {
 
     fn memory(&mut self) -> Done {
         let events = self.scale.events;
-        for kind in KINDS {
-            let many = child::peak(&self.replay, &self.trace(kind.1, events)?)?;
-            let few = child::peak(&self.replay, &self.trace(kind.1, events / 10)?)?;
-            let what = format!(
-                "peak memory of replay, {} trace, {} events beside {}",
-                kind.0,
-                grouped(events.into()),
-                grouped((events / 10).into())
-            );
-            let kibibytes = |n| format!("{} KiB", grouped(n));
-            self.table.row(&what, kibibytes(many), kibibytes(few), many as f64 / few as f64);
+        for (name, program) in [("replay", self.replay.clone()), ("report", self.report.clone())] {
+            for (kind, collects) in KINDS {
+                let many = child::peak(&program, &self.trace(collects, events)?)?;
+                let few = child::peak(&program, &self.trace(collects, events / 10)?)?;
+                let what = format!(
+                    "peak memory of {name}, {kind} trace, {} events beside {}",
+                    grouped(events.into()),
+                    grouped((events / 10).into())
+                );
+                let kibibytes = |n| format!("{} KiB", grouped(n));
+                self.table.row(&what, kibibytes(many), kibibytes(few), many as f64 / few as f64);
+            }
         }
         Ok(())
     }
@@ -350,6 +418,7 @@ impl Bench {
 
     fn instructions(&mut self) -> Done {
         self.replay_instructions()?;
+        self.report_instructions()?;
         let steps = self.counts("steps", "yuyarisun_inner_event")?;
         let checks = self.counts("check", "yuyarisun_sound")?;
         let checked = self.counts("checked", "yuyarisun_collect")?;
@@ -367,6 +436,7 @@ impl Bench {
 
     fn all(&mut self) -> Done {
         self.replays()?;
+        self.reports()?;
         self.checks()?;
         self.pool_events()?;
         self.joins()?;
@@ -445,8 +515,8 @@ fn main() -> Done {
         Some((first, rest)) if first == "--small" => (true, rest),
         _ => (false, &words[..]),
     };
-    let [replay, second, boehm] = programs else {
-        return Err("usage: measure [--small] REPLAY SECOND BOEHM".into());
+    let [replay, report, second, boehm] = programs else {
+        return Err("usage: measure [--small] REPLAY REPORT SECOND BOEHM".into());
     };
     let here = env::current_exe()?;
     let beside = |name: &str| here.with_file_name(name);
@@ -455,6 +525,7 @@ fn main() -> Done {
     let mut bench = Bench {
         scale: if small { &SMALL } else { &FULL },
         replay: replay.into(),
+        report: report.into(),
         second: second.into(),
         boehm: (boehm != "-").then(|| boehm.into()),
         flat: beside("flat"),

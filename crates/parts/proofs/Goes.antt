@@ -1,4 +1,5 @@
 -- A part is taken as the replay of the trace goes: its events are the trace's, and where it has ended the trace's replay ends so.
+--     enough                 a part that does not wait has the bytes of a field
 --     goesFrom, standsOn     how a replay goes on from where a part stands
 --     part-goes              the replay of the trace is that of the part, and goes on from where the part stands
 -- Assumes nothing.
@@ -40,7 +41,7 @@ abbrev pub standsOn : Onward → Taken → Replayed
 standsOn onward x = withLines (x .lines) (goesFrom onward (x .left) (x .stood))
 
 -- a part that does not wait has the bytes of a field, or nothing comes behind it
-enough : (last : Bool) (part more : List ℕ) → (last ≡ true → more ≡ []) → (place : ℕ) → waits last part place ≡ false
+pub enough : (last : Bool) (part more : List ℕ) → (last ≡ true → more ≡ []) → (place : ℕ) → waits last part place ≡ false
     → (place + longest ≤ length part) ⊎ (more ≡ [])
 unfolding waits
 enough true part more whole place h = inr (whole refl)

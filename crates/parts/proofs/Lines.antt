@@ -1,6 +1,7 @@
 -- The lines of a part as text, from the numbers and values that were put into the answers.
 --     lines-text      the text of the answers is the text of the lines
 --     part-lines      of a part
+--     no-lines        of a part with no event
 --     starts-same     a buffer starts with the same text
 -- Assumes nothing.
 use Prim.Native.Nat.{ℕ, suc, _+_, _*_, _≤_}
@@ -42,13 +43,23 @@ module _ {taken : Taken} {x : Progress} {room filled : List ℕ} {part : Part} {
       as-many step [] = refl
       as-many step (y ∷ xs) = ap suc (as-many (suc step) xs)
 
-  pub part-lines : linesText (x .reader .step) (take (part .events * 2) filled) ≡ linesPrinted (taken .lines)
-  part-lines =
+  pub part-lines : {n : ℕ} → part .events ≡ n → linesText (x .reader .step) (take (n * 2) filled) ≡ linesPrinted (taken .lines)
+  part-lines is =
       let xs : List Answer = takes .numbered .0 in
       let lines : List Line = linesBehind (x .reader .step) xs in
-      (λ j. linesText (x .reader .step) (take (count j * 2) ((takes .answers ∙ ap (put room) (takes .numbered .1)) j)))
+      (λ j. linesText (x .reader .step) (take ((sym is ∙ count) j * 2) ((takes .answers ∙ ap (put room) (takes .numbered .1)) j)))
       ∙ lines-text (x .reader .step) xs room (omega (arith, count))
       ∙ ap linesPrinted (sym (takes .numbered .1))
+
+-- a part with no event
+pub no-lines : {taken : Taken} {x : Progress} {room filled : List ℕ} {part : Part} {t : Tables} {buffer : List ℕ} → Takes taken x room part t filled → part .events ≡ 0
+    → StartsWith buffer 0 (linesPrinted (taken .lines))
+unfolding linesPrinted
+no-lines {taken = taken} {buffer = buffer} takes none = by-lines (taken .lines) (sym none ∙ takes .events)
+  where
+    by-lines : (lines : List Line) → 0 ≡ length lines → StartsWith buffer 0 (linesPrinted lines)
+    by-lines [] few = record { whole = refl; inside = omega arith; bytes = refl }
+    by-lines (line ∷ lines) few = absurd (omega arith)
 
 pub starts-same : {buffer : List ℕ} {size : ℕ} {text other : List ℕ} → text ≡ other → StartsWith buffer size text → StartsWith buffer size other
 starts-same {buffer} {size} same starts = subst (StartsWith buffer size) same starts

@@ -1,6 +1,6 @@
 -- What a part behind the sizes field answers and leaves, on the arrays.
 --     Stays, stood-stays          how a trace stands behind some events: the step number is the same, and the sizes field has been read
---     stretch-steps               the step number of a stretch's last event
+--     stretch-steps, ran-steps    the step number of a stretch's last event
 --     rest-events, rest-ended     what a part is, by what may come
 --     left-later                  behind the sizes field a pool lies in the arrays
 --     events-taken                the events are done
@@ -41,7 +41,7 @@ use Rattle.parts.specs.declared.Progress.{Progress}
 use Rattle.parts.specs.declared.Part.{Part}
 use Rattle.parts.specs.Part.{Taken, standOn, restTaken}
 use Rattle.parts.specs.Arrays as arrays
-use Rattle.parts.specs.Arrays.{front, leftIn, Long, Holds, Later, HoldsAt, Takes}
+use Rattle.parts.specs.Arrays.{front, leftIn, Long, Holds, Later, HoldsAt, partOf, Takes}
 use Rattle.parts.proofs.Front.{ran-known}
 
 -- ---- behind the events
@@ -76,6 +76,11 @@ steps-along bytes x (then-more {step = step} {rest = rest} read more) = omega (a
 
 pub stretch-steps : (bytes : List ℕ) (place step : ℕ) → let x = stretch bytes place step in x .step ≡ step + length (x .events)
 stretch-steps bytes place step = steps-along bytes (stretch bytes place step) (stretch-runs bytes place step)
+
+pub ran-steps : (s : Sizes) (t : Tables) (c : Collector) (bytes : List ℕ) (place step : ℕ) (room : List ℕ) {x : RanOn}
+    → ranOn s t c bytes place step room ≡ x → x .ran .step ≡ step + x .ran .events
+unfolding ranOn
+ran-steps s t c bytes place step room run = subst (λ (z : RanOn). z .ran .step ≡ step + z .ran .events) run (stretch-steps bytes place step)
 
 -- ---- a part, by what may come
 
@@ -122,15 +127,10 @@ module _ {x : Progress} {t : Tables} (long : Long t) (holds : Holds x t) (last :
   abbrev pool : Pool
   pool = poolOf (x .sizes) (front (x .sizes) t) (x .collector)
 
-  -- what a part answers, by how the trace stands behind its events
-  abbrev partOf : Stood → ℕ → Collector → Part
-  partOf y events c =
-      record { stand = y .stand; next = y .next; events = events; progress = record { reader = y .reader; sizes = x .sizes; collector = c } }
-
   pub events-taken : Later (x .reader .stage) → (x .reader .stage ≡ Ended → ⊥) → {y : Stood} {ran : Ran} {left : Tables} {filled : List ℕ}
       → arrays.Runs (x .sizes) (ranOn (x .sizes) (front (x .sizes) t) (x .collector) bytes place (x .reader .step) room) ran left filled
       → y ≡ standBehind last (freeMarks (marks (front (x .sizes) left .used))) (ran .collector .closed) bytes (ran .next) (behind (ran .step))
-      → Takes (restTaken last bytes place (x .reader) (x .sizes) pool) x room (partOf y (ran .events) (ran .collector)) left filled
+      → Takes (restTaken last bytes place (x .reader) (x .sizes) pool) x room (partOf (record { reader = behind (ran .step); sizes = x .sizes; collector = ran .collector }) y (ran .events)) left filled
   unfolding ranOn leftIn
   events-taken later unended {y} {ran} {left} {filled} runs behind-events =
       let s : Sizes = x .sizes in
@@ -175,7 +175,7 @@ module _ {x : Progress} {t : Tables} (long : Long t) (holds : Holds x t) (last :
 
   pub ended-taken : x .reader .stage ≡ Ended → {y : Stood}
       → y ≡ standBehind last (freeMarks (marks (front (x .sizes) t .used))) (x .collector .closed) bytes place (x .reader)
-      → Takes (restTaken last bytes place (x .reader) (x .sizes) pool) x room (partOf y 0 (x .collector)) t room
+      → Takes (restTaken last bytes place (x .reader) (x .sizes) pool) x room (partOf x y 0) t room
   unfolding leftIn put poolOf linesBehind
   ended-taken closed {y} behind-end =
       let s : Sizes = x .sizes in

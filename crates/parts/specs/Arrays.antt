@@ -6,7 +6,7 @@
 --     aside           the arrays before the first field
 --     Runs            the events of a stretch, done on them
 --     Holds, Later, Set     the arrays between two parts: before the first field all 0, then a sound pool
---     Numbered, Takes       what a part answers and leaves, on the arrays
+--     partOf, Numbered, Takes     what a part answers and leaves, on the arrays
 -- Assumes nothing.
 use Prim.Native.Nat.{ℕ, _+_, _*_}
 use mathlib.Core.Path.{_≡_}
@@ -24,6 +24,7 @@ use Rattle.tables.specs.Lie.{room, poolOf}
 use Rattle.tables.specs.Known.{Known}
 use Rattle.trace.specs.Replay.{Line, Left, untouched, stands}
 use Rattle.trace.specs.declared.Ran.{Ran}
+use Rattle.trace.specs.declared.Stood.{Stood}
 use Rattle.trace.specs.Stretch.{linesBehind, put, RanOn}
 use Rattle.parts.specs.declared.Progress.{Progress}
 use Rattle.parts.specs.declared.Part.{Part}
@@ -113,6 +114,10 @@ HoldsAt Ended x t = Holds x t
 pub record Set (x : Progress) (t : Tables) : Type 0 where
   pub long : Long t
   pub holds : HoldsAt (x .reader .stage) x t
+
+-- what a part answers, by how the trace stands behind its events, and by what is kept then
+abbrev pub partOf : Progress → Stood → ℕ → Part
+partOf x y events = record { stand = y .stand; next = y .next; events = events; progress = record { reader = y .reader; sizes = x .sizes; collector = x .collector } }
 
 -- the lines of some events behind a step
 abbrev pub Numbered : ℕ → List Line → Type 0

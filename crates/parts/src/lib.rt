@@ -1,13 +1,14 @@
 // A trace that arrives in parts, replayed on arrays that are longer than a pool's tables. All of it is inner (decision 4 of docs/DECISIONS.md): the program is
-// `replay`.
+// `replay`, and `report` begins and ends its parts as `replay` does.
 //     Progress       what is kept between two parts, beside the arrays
 //     Part           what a part answers
-//     PartText       the same, and how long the text of its lines is
-//     take_part      a part, which begins where the one before left off
-//     part_text      the same, and the text of its lines
+//     Begun          how a part begins: with its events, or there is nothing to do
+//     PartText       what a part answers, and how long the text of its lines is
+//     part_text      a part, which begins where the one before left off, and the text of its lines
 //     put_ending     the text of the last line
-//     take_rest      a part behind the sizes field
-//     run_front      its events
+//     run_front      the events of a part
+//     begin_part, end_part     what comes before them, and how the trace stands behind them
+//     begin_first    what comes first in a trace
 //     is_small       the sizes that the program takes
 //     stops          a part that stops at the first field
 use fields::Field;
@@ -29,14 +30,17 @@ use trace::stand_behind;
 ghost use mathlib.Core.Path.{_≡_};
 ghost use mathlib.Core.Bool.{true};
 ghost use Prim.Native.Nat.{_≤_};
-ghost use lib.ListN.{length};
-ghost use Rattle.tables.specs.Tables.{lent};
-ghost use Rattle.tables.specs.Lie.{poolOf};
+ghost use lib.ListN.{length, take};
+ghost use Rattle.rules.specs.Outcome.{freeMarks};
+ghost use Rattle.tables.specs.Tables.{Tables, lent};
+ghost use Rattle.tables.specs.Lie.{marks};
 ghost use Rattle.tables.specs.Known.{Known};
 ghost use Rattle.text.specs.Text.{StartsWith};
 ghost use Rattle.trace.specs.Stretch.{ranOn};
-ghost use Rattle.parts.specs.Part.{restTaken, partTaken, movedEnding};
-ghost use Rattle.parts.specs.Arrays.{isSmall, front, leftIn, Long, Runs, Holds, Later, Set, Takes};
+ghost use Rattle.trace.specs.Stand.{standBehind};
+ghost use Rattle.parts.specs.Part.{partTaken, movedEnding};
+ghost use Rattle.parts.specs.Arrays.{isSmall, front, leftIn, Long, Runs, Set, partOf};
+ghost use Rattle.parts.specs.Begun.{SomeArrays, BegunAs};
 ghost use Rattle.parts.specs.Printed.{endingPrinted};
 ghost use Rattle.parts.specs.Buffer.{HasRoom, TextOf, PlaceFits};
 
@@ -53,6 +57,12 @@ pub struct Part {
     pub next: usize,
     pub events: usize,
     pub progress: Progress,
+}
+
+// How a part begins: with the events from a place on, and what is kept of the pool that they are done on; or no event is done.
+pub enum Begun {
+    Goes(Progress, usize),
+    Stays(Part),
 }
 
 // A part, and how long the text of its lines is.
@@ -128,97 +138,6 @@ fn run_front(
     )
 }
 
-// A part behind the sizes field, from a place on.
-fn take_rest(
-    used: &mut [u16],
-    counts: &mut [u16],
-    held: &mut [u16],
-    candidates: &mut [u16],
-    makers: &mut [u16],
-    values: &mut [u16],
-    changed: &mut [u16],
-    registers: &mut [u16],
-    snoops: &mut [u16],
-    logs: &mut [u16],
-    history: &mut [u16],
-    lengths: &mut [u16],
-    x: Progress,
-    bytes: &[u8],
-    place: usize,
-    last: bool,
-    answers: &mut [u16],
-) -> Part
-    requires { ⌜ Long (lent used counts held candidates makers values changed registers snoops logs history lengths) ⌝ }
-    requires { ⌜ Holds x (lent used counts held candidates makers values changed registers snoops logs history lengths) ⌝ }
-    requires { ⌜ Later (x .reader .stage) ⌝ }
-    ensures { λ y. ⌜ Takes
-        (restTaken last (now (bytes .entry)) place (x .reader) (x .sizes) (poolOf (x .sizes) (front (x .sizes) (lent (used .entry) (counts .entry) (held .entry) (candidates .entry) (makers .entry) (values .entry) (changed .entry) (registers .entry) (snoops .entry) (logs .entry) (history .entry) (lengths .entry))) (x .collector)))
-        x
-        (now (answers .entry))
-        y
-        (lent (used .exit) (counts .exit) (held .exit) (candidates .exit) (makers .exit) (values .exit) (changed .exit) (registers .exit) (snoops .exit) (logs .exit) (history .exit) (lengths .exit))
-        (now (answers .exit)) ⌝ }
-{
-    let s = x.sizes;
-    let collector = x.collector;
-    let reader = x.reader;
-    let n = s.n as usize;
-    let stage = reader.stage;
-    if let Stage::Ended = stage {
-        let stood = stand_behind(&used[..n], collector.closed, bytes, place, reader, last);
-        let stand = stood.stand;
-        let now = stood.reader;
-        return Part {
-            stand,
-            next: stood.next,
-            events: 0,
-            progress: Progress {
-                reader: now,
-                sizes: s,
-                collector,
-            },
-        };
-    }
-    let ran = run_front(
-        s,
-        used,
-        counts,
-        held,
-        candidates,
-        makers,
-        values,
-        changed,
-        registers,
-        snoops,
-        logs,
-        history,
-        lengths,
-        collector,
-        bytes,
-        place,
-        reader.step,
-        answers,
-    );
-    let moved = ran.collector;
-    let behind = Reader {
-        stage: Stage::Events,
-        step: ran.step,
-    };
-    let stood = stand_behind(&used[..n], moved.closed, bytes, ran.next, behind, last);
-    let stand = stood.stand;
-    let now = stood.reader;
-    Part {
-        stand,
-        next: stood.next,
-        events: ran.events,
-        progress: Progress {
-            reader: now,
-            sizes: s,
-            collector: moved,
-        },
-    }
-}
-
 // A part that stops at the first field, before there is a pool.
 fn stops(x: Progress, why: Refusal, place: usize) -> Part
     ensures { λ y. ⌜ y ≡ record { stand = Stand.Ended (Ending.Stopped why place); next = 0; events = 0; progress = x } ⌝ }
@@ -231,86 +150,29 @@ fn stops(x: Progress, why: Refusal, place: usize) -> Part
     }
 }
 
-// A part of a trace.
-pub fn take_part(
-    used: &mut [u16],
-    counts: &mut [u16],
-    held: &mut [u16],
-    candidates: &mut [u16],
-    makers: &mut [u16],
-    values: &mut [u16],
-    changed: &mut [u16],
-    registers: &mut [u16],
-    snoops: &mut [u16],
-    logs: &mut [u16],
-    history: &mut [u16],
-    lengths: &mut [u16],
-    x: Progress,
-    bytes: &[u8],
-    last: bool,
-    answers: &mut [u16],
-) -> Part
-    requires { ⌜ Set x (lent used counts held candidates makers values changed registers snoops logs history lengths) ⌝ }
-    ensures { λ y. ⌜ Takes
-        (partTaken isSmall last (now (bytes .entry)) (x .reader) (leftIn x (lent (used .entry) (counts .entry) (held .entry) (candidates .entry) (makers .entry) (values .entry) (changed .entry) (registers .entry) (snoops .entry) (logs .entry) (history .entry) (lengths .entry))))
-        x
-        (now (answers .entry))
-        y
-        (lent (used .exit) (counts .exit) (held .exit) (candidates .exit) (makers .exit) (values .exit) (changed .exit) (registers .exit) (snoops .exit) (logs .exit) (history .exit) (lengths .exit))
-        (now (answers .exit)) ⌝ }
+// What comes first in a trace: the sizes, which make the pool, or a refusal, or more has to be read.
+fn begin_first(x: Progress, bytes: &[u8], last: bool) -> Begun
+    requires { ⌜ x .reader .stage ≡ Stage.First ⌝ }
+    ensures { λ y. ⌜ ((t : Tables) → Set x t → BegunAs x t last (now (bytes .entry)) y) ⌝ }
 {
     let reader = x.reader;
-    let stage = reader.stage;
-    let Stage::First = stage else {
-        return take_rest(
-            used,
-            counts,
-            held,
-            candidates,
-            makers,
-            values,
-            changed,
-            registers,
-            snoops,
-            logs,
-            history,
-            lengths,
-            x,
-            bytes,
-            0,
-            last,
-            answers,
-        );
-    };
     if !last & (bytes.len() < 13) {
-        return Part {
+        return Begun::Stays(Part {
             stand: Stand::Waits,
             next: 0,
             events: 0,
             progress: x,
-        };
+        });
     }
     let first = read_at(bytes, 0, reader);
     let field = first.field;
     match field {
         Field::Sizes(s) => {
             if !is_small(s) {
-                return stops(x, Refusal::WrongSize, 0);
+                return Begun::Stays(stops(x, Refusal::WrongSize, 0));
             }
             let now = first.reader;
-            take_rest(
-                used,
-                counts,
-                held,
-                candidates,
-                makers,
-                values,
-                changed,
-                registers,
-                snoops,
-                logs,
-                history,
-                lengths,
+            Begun::Goes(
                 Progress {
                     reader: now,
                     sizes: s,
@@ -320,14 +182,57 @@ pub fn take_part(
                         closed: 0,
                     },
                 },
-                bytes,
                 first.next,
-                last,
-                answers,
             )
         }
-        Field::Refused(why, place) => stops(x, why, place),
-        _ => stops(x, Refusal::WrongTag, 0),
+        Field::Refused(why, place) => Begun::Stays(stops(x, why, place)),
+        _ => Begun::Stays(stops(x, Refusal::WrongTag, 0)),
+    }
+}
+
+// How the trace stands behind the events of a part, from a place on. `x` is what is kept then, and `events` is how many there were.
+pub fn end_part(
+    used: &[u16],
+    x: Progress,
+    bytes: &[u8],
+    place: usize,
+    events: usize,
+    last: bool,
+) -> Part
+    requires { ⌜ isSmall (x .sizes) ≡ true ⌝ }
+    requires { ⌜ length (now used) ≡ 64 ⌝ }
+    ensures { λ y. ⌜ y ≡ partOf x (standBehind last (freeMarks (marks (take (x .sizes .n) (now (used .entry))))) (x .collector .closed) (now (bytes .entry)) place (x .reader)) events ⌝ }
+{
+    let s = x.sizes;
+    let collector = x.collector;
+    let reader = x.reader;
+    let n = s.n as usize;
+    let stood = stand_behind(&used[..n], collector.closed, bytes, place, reader, last);
+    let stand = stood.stand;
+    let now = stood.reader;
+    Part {
+        stand,
+        next: stood.next,
+        events,
+        progress: Progress {
+            reader: now,
+            sizes: s,
+            collector,
+        },
+    }
+}
+
+// How a part begins, which begins where the one before left off.
+pub fn begin_part(used: &[u16], x: Progress, bytes: &[u8], last: bool) -> Begun
+    requires { ⌜ SomeArrays x (now used) ⌝ }
+    ensures { λ y. ⌜ ((t : Tables) → t .used ≡ now (used .entry) → Set x t → BegunAs x t last (now (bytes .entry)) y) ⌝ }
+{
+    let reader = x.reader;
+    let stage = reader.stage;
+    match stage {
+        Stage::First => begin_first(x, bytes, last),
+        Stage::Events => Begun::Goes(x, 0),
+        Stage::Ended => Begun::Stays(end_part(used, x, bytes, 0, 0, last)),
     }
 }
 
@@ -360,28 +265,53 @@ pub fn part_text(
         (lent (used .exit) (counts .exit) (held .exit) (candidates .exit) (makers .exit) (values .exit) (changed .exit) (registers .exit) (snoops .exit) (logs .exit) (history .exit) (lengths .exit))
         (now (text .exit)) ⌝ }
 {
-    let reader = x.reader;
-    let part = take_part(
-        used,
-        counts,
-        held,
-        candidates,
-        makers,
-        values,
-        changed,
-        registers,
-        snoops,
-        logs,
-        history,
-        lengths,
-        x,
-        bytes,
-        last,
-        answers,
-    );
-    let filled = part.events * 2;
-    let size = put_lines(text, reader.step, &answers[..filled]);
-    PartText { part, size }
+    let step = x.reader.step;
+    let begun = begin_part(used, x, bytes, last);
+    match begun {
+        Begun::Stays(part) => PartText { part, size: 0 },
+        Begun::Goes(y, place) => {
+            let s = y.sizes;
+            let ran = run_front(
+                s,
+                used,
+                counts,
+                held,
+                candidates,
+                makers,
+                values,
+                changed,
+                registers,
+                snoops,
+                logs,
+                history,
+                lengths,
+                y.collector,
+                bytes,
+                place,
+                step,
+                answers,
+            );
+            let collector = ran.collector;
+            let part = end_part(
+                used,
+                Progress {
+                    reader: Reader {
+                        stage: Stage::Events,
+                        step: ran.step,
+                    },
+                    sizes: s,
+                    collector,
+                },
+                bytes,
+                ran.next,
+                ran.events,
+                last,
+            );
+            let filled = ran.events * 2;
+            let size = put_lines(text, step, &answers[..filled]);
+            PartText { part, size }
+        }
+    }
 }
 
 // The last line of a replay, put into `text`, from its start on; answers how long it is. The part begins `base` bytes behind the trace's beginning.

@@ -1,28 +1,24 @@
 -- A turn of the program.
 --     Ready           before a turn: the arrays, the buffers' lengths, what is left of the part before, and how far the trace has been read
 --     ready-first     before the first
---     part-waiting, part-place     where a part waits, and where it ends
---     place-fits      the place in the trace has 64 bits
+--     text-waiting, text-place     where the part waits, and where it ends
 -- Assumes nothing.
 use Prim.Native.Nat.{ℕ, _+_, _*_, _≤_, _<_}
-use mathlib.Core.Path.{_≡_, refl, ap, _∙_, subst}
+use mathlib.Core.Path.{_≡_, refl}
 use mathlib.Core.Bool.{Bool}
 use mathlib.Core.List.{List}
 use native.Mathlib.Omega.{arith}
 use lib.ListN.{length, replicate, length-replicate}
-use Rattle.fields.specs.declared.Stage.the-variants.{First}
 use Rattle.tables.specs.Tables.{Tables}
 use Rattle.trace.specs.declared.Ending.{Ending}
-use Rattle.trace.specs.declared.Ending.the-variants.{Whole, Stopped}
 use Rattle.trace.specs.declared.Stand.the-variants as stand
-use Rattle.trace.specs.declared.Stood.{Stood}
 use Rattle.parts.specs.declared.Progress.{Progress}
 use Rattle.parts.specs.declared.Part.{Part}
-use Rattle.parts.specs.Part.{partTaken}
-use Rattle.parts.specs.Arrays.{isSmall, leftIn, Long, aside, Set}
-use Rattle.parts.specs.Buffer.{TextOf, PlaceFits}
-use Rattle.parts.proofs.Between.{arrays-between, few-left, part-waits}
-use Rattle.parts.proofs.Ends.{PlaceBy, EndsBy, part-ends}
+use Rattle.parts.specs.Arrays.{aside, Set}
+use Rattle.parts.specs.Begun.{wholePart}
+use Rattle.parts.specs.Buffer.{TextOf}
+use Rattle.parts.proofs.Ends.{PlaceBy}
+use Rattle.parts.proofs.Turn.{aside-long, begins, part-waiting, part-place}
 
 -- a turn reads at most 16384 bytes, so that the place in the trace has 64 bits
 pub record Ready (x : Progress) (t : Tables) (bytes numbers lines : List ℕ) (base left turns : ℕ) : Type 0 where
@@ -32,33 +28,6 @@ pub record Ready (x : Progress) (t : Tables) (bytes numbers lines : List ℕ) (b
   pub text : length lines ≡ 56272
   pub few : left < 13
   pub near : base + turns * 16384 ≤ 18014398509481984
-
--- the arrays before the first field are as long as they are to be
-aside-long : Long aside
-unfolding aside
-aside-long =
-    record {
-      used = length-replicate {A = ℕ} 64 0;
-      counts = length-replicate {A = ℕ} 64 0;
-      held = length-replicate {A = ℕ} 64 0;
-      candidates = length-replicate {A = ℕ} 64 0;
-      makers = length-replicate {A = ℕ} 64 0;
-      values = length-replicate {A = ℕ} 264 0;
-      changed = length-replicate {A = ℕ} 264 0;
-      registers = length-replicate {A = ℕ} 33 0;
-      snoops = length-replicate {A = ℕ} 4 0;
-      logs = length-replicate {A = ℕ} 2112 0;
-      history = length-replicate {A = ℕ} 528 0;
-      lengths = length-replicate {A = ℕ} 5 0;
-    }
-
-abbrev pub begins : Progress
-begins =
-    record {
-      reader = record { stage = First; step = 0 };
-      sizes = record { n = 0; k = 0; w = 0; r = 0; b = 0 };
-      collector = record { phase = 0; position = 0; closed = 0 };
-    }
 
 pub ready-first : Ready begins aside (replicate 16384 0) (replicate 4684 0) (replicate 56272 0) 0 0 1099511627776
 ready-first =
@@ -72,19 +41,9 @@ ready-first =
     }
 
 module _ (x : Progress) (t : Tables) (last : Bool) (bytes : List ℕ) {part : Part} {size : ℕ} {after : Tables} {text : List ℕ}
-    (did : TextOf (partTaken isSmall last bytes (x .reader) (leftIn x t)) part size after text) where
-  pub part-waiting : part .stand ≡ stand.Waits → (part .next ≤ length bytes) × (length bytes < part .next + 13)
-  part-waiting waiting =
-      let w = part-waits last bytes isSmall (x .reader) (leftIn x t) (arrays-between x t) (ap (λ (z : Stood). z .stand) (did .stood) ∙ waiting) in (
-        subst (λ (z : Stood). z .next ≤ length bytes) (did .stood) (w .inside),
-        subst (λ (z : Stood). length bytes < z .next + 13) (did .stood) (few-left w),
-      )
+    (did : TextOf (wholePart x t last bytes) part size after text) where
+  pub text-waiting : part .stand ≡ stand.Waits → (part .next ≤ length bytes) × (length bytes < part .next + 13)
+  text-waiting = part-waiting x t last bytes part (did .stood)
 
-  pub part-place : {ending : Ending} → part .stand ≡ stand.Ended ending → PlaceBy (length bytes) ending
-  part-place ends =
-      subst (EndsBy (length bytes)) (ap (λ (z : Stood). z .stand) (did .stood) ∙ ends)
-      (part-ends last bytes isSmall (x .reader) (leftIn x t) (arrays-between x t))
-
-pub place-fits : (base n : ℕ) (ending : Ending) → base ≤ 18014398509481984 → n ≤ 16384 → PlaceBy n ending → PlaceFits base ending
-place-fits base n (Whole free closed) near few inside = tt
-place-fits base n (Stopped why place) near few inside = omega arith
+  pub text-place : {ending : Ending} → part .stand ≡ stand.Ended ending → PlaceBy (length bytes) ending
+  text-place = part-place x t last bytes part (did .stood)

@@ -1,9 +1,12 @@
-// What `replay` prints, put into a buffer. All of it is inner (decision 4 of docs/DECISIONS.md): each asks that the text has room.
+// What `replay` and `report` print, put into a buffer. All of it is inner (decision 4 of docs/DECISIONS.md): each asks that the text has room.
 //     decimal_places, put_decimal     a number in decimal digits
 //     put_two                         two numbers up to the end of a line
 //     count_up, put_bytes             the digits of the next number; bytes
 //     put_line, put_lines             the line of an event, and the lines of many
 //     put_end, put_refused            the two last lines
+//     cycle                           the lines of cycles
+pub mod cycle;
+
 ghost use mathlib.Core.Path.{_≡_};
 ghost use mathlib.Core.List.{_++_};
 ghost use Prim.Native.Nat.{_+_, _*_, _≤_, _<_};

@@ -1,6 +1,7 @@
 -- A stretch done event by event on lent tables: what the events still to be done answer and leave, together with what has been answered, stays the same.
 --     restOn            what the events from a place on answer and leave, with so many done before
 --     rest-starts       none is done
+--     pool-again, known-again     the pool after an event, by what it left of the tables
 --     rest-event        one is done
 --     rest-ends         none follows
 --     Going             the events of a stretch are being done
@@ -51,7 +52,7 @@ module _ {s : Sizes} {t : Tables} {c : Collector} (known : Known s t c) (bytes :
   rest-starts room = rw zero-add refl
 
   -- the pool after an event, by what the event left of the tables
-  pool-again : (e : Event) → let y = eventOn s t c e in poolOf s (y .tables) (y .collector) ≡ outcome s (poolOf s t c) e .pool
+  pub pool-again : (e : Event) → let y = eventOn s t c e in poolOf s (y .tables) (y .collector) ≡ outcome s (poolOf s t c) e .pool
   unfolding eventOn written
   pool-again e =
       let sound = event-keeps-sound s (known .sizes) (poolOf s t c) (known .tables .sound) e in

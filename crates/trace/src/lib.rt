@@ -194,8 +194,8 @@ pub fn stand_behind(
     }
 }
 
-// How a trace ends that stands so behind its last byte. It waits for nothing there; were it to, it would stop short.
-fn ending_of(stand: Stand, place: usize) -> Ending
+// How a trace ends that stands so behind its last byte. It waits for nothing there; were it to, it would stop short. Inner.
+pub fn ending_of(stand: Stand, place: usize) -> Ending
     ensures { λ x. ⌜ x ≡ endingOf stand place ⌝ }
 {
     match stand {

@@ -1,12 +1,13 @@
 -- What a call answers and leaves, in numbers.
 --     in-numbers     from what the call gives and the number and value of its answer
 --     fresh-value    the value of `fresh` is 0
---     many-in-numbers, trace-in-numbers     the same of many events at once, and of a whole trace
+--     many-in-numbers, trace-in-numbers, report-in-numbers     the same of many events at once, of a whole trace, and of its report
 -- Assumes nothing.
 use Prim.Native.Nat.{ℕ}
 use mathlib.Core.Path.{_≡_, refl, sym, ap, _∙_}
 use mathlib.Core.Bool.{Bool, true, false, cond}
 use mathlib.Core.List.{List}
+use lib.IntN.{ℤ}
 use Rattle.rules.specs.declared.Sizes.{Sizes}
 use Rattle.rules.specs.declared.Collector.{Collector}
 use Rattle.rules.specs.declared.Answer.the-variants.{Fresh}
@@ -20,10 +21,12 @@ use Rattle.fresh.specs.Fits.{fits, refusedOn}
 use Rattle.fresh.specs.Fresh.{madeFresh}
 use Rattle.trace.specs.declared.Replay.{Replay}
 use Rattle.trace.specs.Traced.{Traced}
+use Rattle.tally.specs.declared.Report.{Report}
+use Rattle.tally.specs.Traced.{ReportOn}
 use Rattle.many.specs.declared.Many.{Many}
 use Rattle.many.specs.Many.{ManyOn}
 use Rattle.yuyarisun.specs.Exported.{numbers}
-use Rattle.yuyarisun.specs.Several.{restNumber, restPlace, manyNumbers, endingNumber, endingPlace, endingFree, traceNumbers}
+use Rattle.yuyarisun.specs.Several.{restNumber, restPlace, manyNumbers, endingNumber, endingPlace, endingFree, traceNumbers, reportNumbers}
 
 pub in-numbers : (given : Called) (x : Answered) (t : Tables) (n v : ℕ)
     → given ≡ record { answer = x .answer; collector = x .collector; tables = t } → n ≡ number (x .answer) → v ≡ value (x .answer)
@@ -108,4 +111,37 @@ trace-in-numbers given x t answers n free place gives numbered counted placed =
       closed = x .collector .closed;
       tables = t;
       answers = answers;
+    })
+
+pub report-in-numbers : (given : ReportOn) (x : Report) (t : Tables) (numbers : List ℤ) (n free place : ℕ)
+    → given ≡ record { report = x; tables = t; numbers = numbers }
+    → n ≡ endingNumber (x .replay .ending) → free ≡ endingFree (x .replay .ending) → place ≡ endingPlace (x .replay .ending)
+    → reportNumbers given
+    ≡ record {
+      number = n;
+      free = free;
+      place = place;
+      events = x .replay .events;
+      cycles = x .cycles;
+      phase = x .replay .collector .phase;
+      position = x .replay .collector .position;
+      closed = x .replay .collector .closed;
+      tables = t;
+      numbers = numbers;
+    }
+unfolding reportNumbers
+report-in-numbers given x t numbers n free place gives numbered counted placed =
+    ap reportNumbers gives
+    ∙ (λ j.
+    record {
+      number = sym numbered j;
+      free = sym counted j;
+      place = sym placed j;
+      events = x .replay .events;
+      cycles = x .cycles;
+      phase = x .replay .collector .phase;
+      position = x .replay .collector .position;
+      closed = x .replay .collector .closed;
+      tables = t;
+      numbers = numbers;
     })

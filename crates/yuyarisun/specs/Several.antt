@@ -1,16 +1,19 @@
--- What the exported calls for many events and for a whole trace answer and leave, in numbers.
+-- What the exported calls for many events and for a whole trace answer and leave, in numbers; and that for a report.
 --     restNumber, restPlace            what stopped many events, and where
 --     ManyNumbers, manyNumbers         many events at once
 --     endingNumber, endingPlace, endingFree     how a trace ended
 --     TraceNumbers, traceNumbers       a whole trace
+--     ReportNumbers, reportNumbers     a whole trace, with its closed cycles
 -- Assumes nothing.
 use Prim.Native.Nat.{ℕ}
 use mathlib.Core.List.{List}
+use lib.IntN.{ℤ}
 use Rattle.rules.specs.Reply.{refusalNumber}
 use Rattle.tables.specs.Tables.{Tables}
 use Rattle.trace.specs.declared.Ending.{Ending}
 use Rattle.trace.specs.declared.Ending.the-variants as ending
 use Rattle.trace.specs.Traced.{Traced}
+use Rattle.tally.specs.Traced.{ReportOn}
 use Rattle.many.specs.declared.Rest.{Rest}
 use Rattle.many.specs.declared.Rest.the-variants as rest
 use Rattle.many.specs.Many.{ManyOn}
@@ -83,4 +86,32 @@ traceNumbers x =
       closed = x .replay .collector .closed;
       tables = x .tables;
       answers = x .answers;
+    }
+
+pub record ReportNumbers : Type 0 where
+  pub number : ℕ
+  pub free : ℕ
+  pub place : ℕ
+  pub events : ℕ
+  pub cycles : ℕ
+  pub phase : ℕ
+  pub position : ℕ
+  pub closed : ℕ
+  pub tables : Tables
+  pub numbers : List ℤ
+
+unfoldable pub reportNumbers : ReportOn → ReportNumbers
+reportNumbers x =
+    let replay = x .report .replay in
+    record {
+      number = endingNumber (replay .ending);
+      free = endingFree (replay .ending);
+      place = endingPlace (replay .ending);
+      events = replay .events;
+      cycles = x .report .cycles;
+      phase = replay .collector .phase;
+      position = replay .collector .position;
+      closed = replay .collector .closed;
+      tables = x .tables;
+      numbers = x .numbers;
     }

@@ -4,6 +4,7 @@
 //     yuyarisun_make, _move, _drop, _load, _store, _look, _post, _collect     one event of each kind: `pool::event`
 //     yuyarisun_fresh, _sound, _free_records                                  the calls of `fresh`, and `pool::sound`
 //     yuyarisun_events, _trace                                                many events at once; a whole trace
+//     yuyarisun_report                                                        a whole trace, and the numbers of its closed cycles
 //     yuyarisun_join                                                          parts of a trace, joined
 //     yuyarisun_inner_event                                                   inner: an event on a pool that is known to be sound; in no header
 // Inner: one_event, event_of, rest_number, rest_place, ending_number, ending_place, ending_free, joined_number, joined_length, joined_place.
@@ -22,6 +23,7 @@ use reply::value_of;
 use rules::Collector;
 use rules::Event;
 use rules::Sizes;
+use tally::report_trace;
 use trace::Ending;
 use trace::replay_trace;
 ghost use mathlib.Core.Path.{_≡_};
@@ -36,10 +38,11 @@ ghost use Rattle.fresh.specs.Fits.{fits};
 ghost use Rattle.fresh.specs.Fresh.{madeFresh};
 ghost use Rattle.pool.specs.Calls.{called};
 ghost use Rattle.trace.specs.Traced.{traced};
+ghost use Rattle.tally.specs.Traced.{reportTraced};
 ghost use Rattle.many.specs.Many.{manyOn};
 ghost use Rattle.join.specs.Joined.{joinedOn};
 ghost use Rattle.yuyarisun.specs.Exported.{sizesOf, collectorOf, eventOf, numbers};
-ghost use Rattle.yuyarisun.specs.Several.{restNumber, restPlace, manyNumbers, endingNumber, endingPlace, endingFree, traceNumbers};
+ghost use Rattle.yuyarisun.specs.Several.{restNumber, restPlace, manyNumbers, endingNumber, endingPlace, endingFree, traceNumbers, reportNumbers};
 ghost use Rattle.yuyarisun.specs.Join.{joinedNumber, joinedLength, joinedPlace, joinNumbers};
 
 // One event on a lent pool, in numbers.
@@ -960,6 +963,70 @@ pub extern "C" fn yuyarisun_trace(
         bytes,
         answers,
     );
+    let after = x.collector;
+    *phase = after.phase;
+    *position = after.position;
+    *closed = after.closed;
+    *events = x.events;
+    let ending = x.ending;
+    *free = ending_free(ending);
+    *place = ending_place(ending);
+    ending_number(ending)
+}
+
+// A whole trace, as `yuyarisun_trace` does it. In the place of the answers, the numbers of each cycle that closes are put into `lines` in turn, as far as there is room:
+// what it took, what it freed, and the net; and how many have closed into `cycles`.
+#[no_mangle]
+pub extern "C" fn yuyarisun_report(
+    used: &mut [u16],
+    counts: &mut [u16],
+    held: &mut [u16],
+    candidates: &mut [u16],
+    makers: &mut [u16],
+    values: &mut [u16],
+    changed: &mut [u16],
+    registers: &mut [u16],
+    snoops: &mut [u16],
+    logs: &mut [u16],
+    history: &mut [u16],
+    lengths: &mut [u16],
+    phase: &mut u16,
+    position: &mut u16,
+    closed: &mut u16,
+    bytes: &[u8],
+    lines: &mut [i64],
+    events: &mut usize,
+    cycles: &mut usize,
+    free: &mut u16,
+    place: &mut usize,
+) -> u16
+    ensures { λ x. ⌜ reportNumbers (reportTraced (lent (used .entry) (counts .entry) (held .entry) (candidates .entry) (makers .entry) (values .entry) (changed .entry) (registers .entry) (snoops .entry) (logs .entry) (history .entry) (lengths .entry)) (collectorOf (now (phase .entry)) (now (position .entry)) (now (closed .entry))) (now (bytes .entry)) (now (lines .entry)))
+        ≡ record { number = x; free = now (free .exit); place = now (place .exit); events = now (events .exit); cycles = now (cycles .exit); phase = now (phase .exit); position = now (position .exit); closed = now (closed .exit); tables = lent (used .exit) (counts .exit) (held .exit) (candidates .exit) (makers .exit) (values .exit) (changed .exit) (registers .exit) (snoops .exit) (logs .exit) (history .exit) (lengths .exit); numbers = now (lines .exit) } ⌝ }
+{
+    let before = Collector {
+        phase: *phase,
+        position: *position,
+        closed: *closed,
+    };
+    let y = report_trace(
+        used,
+        counts,
+        held,
+        candidates,
+        makers,
+        values,
+        changed,
+        registers,
+        snoops,
+        logs,
+        history,
+        lengths,
+        before,
+        bytes,
+        lines,
+    );
+    *cycles = y.cycles;
+    let x = y.replay;
     let after = x.collector;
     *phase = after.phase;
     *position = after.position;

@@ -1,5 +1,6 @@
 //! What a set of traces covered: how they ended, how their sizes fields say B, what their makes came upon,
-//! what was wrong at once with an event, how they were handed over, and where in a field a read ended.
+//! what was wrong at once with an event, what their cycles were, how they were handed over, and where in a
+//! field a read ended.
 
 use std::fmt;
 use std::str;
@@ -7,7 +8,10 @@ use std::str;
 use second::event::{happen, Event};
 use second::pool::Pool;
 use second::replay::Ending;
-use second::tally::{makes, sizes_fields, wrongs, MAKES, SIZES_FIELDS, WRONGS};
+use second::report::{Cycles, Upon};
+use second::tally::{
+    cycles, left_open, makes, sizes_fields, wrongs, CYCLES, LEFT_OPEN, MAKES, SIZES_FIELDS, WRONGS,
+};
 use second::trace::{well_formed, Field, Kind, Reader};
 
 use crate::hand::{pieces, Way, ROOM};
@@ -51,6 +55,9 @@ pub struct Cover {
     sizes_fields: [u64; SIZES_FIELDS.len()],
     makes: [u64; MAKES.len()],
     wrongs: [u64; WRONGS.len()],
+    cycles: [u64; CYCLES.len()],
+    left_open: [u64; LEFT_OPEN.len()],
+    most_cycles: u64,
     by_pipe: u64,
     by_file: u64,
     by_pieces: u64,
@@ -78,7 +85,8 @@ impl Cover {
             events += 1;
             self.answers[number] += 1;
         }
-        self.count_upon(trace);
+        let is_open = self.count_upon(trace);
+        add(&mut self.left_open, &left_open(ending, is_open).map(u64::from));
         self.long += u64::from(events >= LONG);
         self.most_events = self.most_events.max(events);
         self.most_bytes = self.most_bytes.max(trace.len());
@@ -98,10 +106,11 @@ impl Cover {
         }
     }
 
-    /// What the events of a trace came upon.
-    fn count_upon(&mut self, trace: &[u8]) {
+    /// What the events of a trace came upon, and the cycles that they closed; whether they leave one
+    /// open.
+    fn count_upon(&mut self, trace: &[u8]) -> bool {
         let mut reader = Reader::new(trace);
-        let mut pool = None;
+        let (mut pool, mut watched, mut closed) = (None, Cycles::default(), 0);
         while let Ok(Some(field)) = reader.next_field() {
             match (field, &mut pool) {
                 (Field::Sizes { sizes, carries_b }, _) => {
@@ -111,14 +120,21 @@ impl Cover {
                 (Field::Event { event, .. }, Some(pool)) => {
                     add(&mut self.wrongs, &wrongs(pool, event).map(u64::from));
                     let upon = matches!(event, Event::Make { .. }).then(|| makes(pool));
+                    let seen = Upon::of(pool);
                     if let (0, Some(upon)) = (happen(pool, event).number, upon) {
                         add(&mut self.makes, &upon.map(u64::from));
+                    }
+                    if let Some(cycle) = watched.event(seen, pool) {
+                        closed += 1;
+                        add(&mut self.cycles, &cycles(&cycle).map(u64::from));
                     }
                 }
                 // The end field. No event comes before the sizes.
                 _ => {}
             }
         }
+        self.most_cycles = self.most_cycles.max(closed);
+        watched.is_open()
     }
 
     /// What both covered.
@@ -129,6 +145,9 @@ impl Cover {
         add(&mut self.sizes_fields, &other.sizes_fields);
         add(&mut self.makes, &other.makes);
         add(&mut self.wrongs, &other.wrongs);
+        add(&mut self.cycles, &other.cycles);
+        add(&mut self.left_open, &other.left_open);
+        self.most_cycles = self.most_cycles.max(other.most_cycles);
         self.by_pipe += other.by_pipe;
         self.by_file += other.by_file;
         self.by_pieces += other.by_pieces;
@@ -158,7 +177,8 @@ impl Cover {
         }
         let sizes_fields = SIZES_FIELDS.into_iter().zip(self.sizes_fields);
         let upon = MAKES.into_iter().zip(self.makes).chain(WRONGS.into_iter().zip(self.wrongs));
-        for (what, times) in sizes_fields.chain(upon) {
+        let cycles = CYCLES.into_iter().zip(self.cycles).chain(LEFT_OPEN.into_iter().zip(self.left_open));
+        for (what, times) in sizes_fields.chain(upon).chain(cycles) {
             ask(what.into(), times);
         }
         let ways = [self.by_pipe, self.by_file, self.by_pieces];
@@ -264,6 +284,15 @@ impl fmt::Display for Cover {
         }
         writeln!(out, "how often this was wrong at once with an event:")?;
         for (times, what) in self.wrongs.iter().zip(WRONGS) {
+            writeln!(out, "{times:>10}  {what}")?;
+        }
+        writeln!(
+            out,
+            "how often a cycle or an ending was this, the most cycles being {}:",
+            self.most_cycles
+        )?;
+        let left_open = self.left_open.iter().zip(LEFT_OPEN);
+        for (times, what) in self.cycles.iter().zip(CYCLES).chain(left_open) {
             writeln!(out, "{times:>10}  {what}")?;
         }
         writeln!(

@@ -1,29 +1,53 @@
-//! One trace, replayed by both programs, and turned into text and back.
+//! One trace, replayed and reported by the proved programs and by the second one, and turned into text
+//! and back.
 
 use std::io;
 
-use second::replay::replay as replay_second;
+use second::replay::replay;
+use second::report::report;
 use trace::text;
 
 use crate::cover::Cover;
 use crate::hand::{run, Outcome, Way};
 
-/// In what the two programs differ.
+/// The two proved programs.
+#[derive(Clone, Copy)]
+pub struct Programs<'a> {
+    pub replay: &'a str,
+    pub report: &'a str,
+}
+
+/// In what one of them and the second program differ.
 #[derive(Debug, PartialEq, Eq)]
 pub struct Difference(pub String);
 
-/// Compares what the program prints with what the second program prints.
-pub fn judge(replay: &str, trace: &[u8], way: Way, cover: &mut Cover) -> io::Result<Option<Difference>> {
+/// Compares what the two programs print with what the second program prints.
+pub fn judge(
+    programs: Programs,
+    trace: &[u8],
+    way: Way,
+    cover: &mut Cover,
+) -> io::Result<Option<Difference>> {
     if text::write(&text::show(trace)).as_deref() != Ok(trace) {
         return Ok(Some(Difference("its text form does not give the same bytes".into())));
     }
-    let mut expected = Vec::new();
-    let ending = replay_second(trace, &mut expected, None)?;
-    cover.trace(trace, way, &ending, &expected);
-    Ok(match run(replay, trace, way, expected.len())? {
-        Outcome::Printed(printed) => difference(&expected, &printed),
+    let (mut lines, mut reported) = (Vec::new(), Vec::new());
+    let ending = replay(trace, &mut lines, None)?;
+    report(trace, &mut reported)?;
+    cover.trace(trace, way, &ending, &lines);
+    match prints(programs.replay, trace, way, &lines)? {
+        None => prints(programs.report, trace, way, &reported),
+        differs => Ok(differs),
+    }
+}
+
+/// A program prints what is expected.
+fn prints(program: &str, trace: &[u8], way: Way, expected: &[u8]) -> io::Result<Option<Difference>> {
+    let differs = match run(program, trace, way, expected.len())? {
+        Outcome::Printed(printed) => difference(expected, &printed),
         Outcome::Strayed(how) => Some(Difference(how)),
-    })
+    };
+    Ok(differs.map(|Difference(what)| Difference(format!("{program}: {what}"))))
 }
 
 fn difference(expected: &[u8], printed: &[u8]) -> Option<Difference> {
@@ -32,10 +56,10 @@ fn difference(expected: &[u8], printed: &[u8]) -> Option<Difference> {
     }
     let (expected, printed) = (String::from_utf8_lossy(expected), String::from_utf8_lossy(printed));
     let mut lines = (1..).zip(expected.split_inclusive('\n').zip(printed.split_inclusive('\n')));
-    let first = lines.find(|(_, (second, replay))| second != replay);
+    let first = lines.find(|(_, (second, proved))| second != proved);
     Some(Difference(match first {
-        Some((line, (second, replay))) => {
-            format!("line {line} is {replay:?}, and by the second program {second:?}")
+        Some((line, (second, proved))) => {
+            format!("line {line} is {proved:?}, and by the second program {second:?}")
         }
         None => "it prints fewer lines than the second program".into(),
     }))

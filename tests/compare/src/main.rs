@@ -1,17 +1,18 @@
-//! `compare REPLAY FOLDER FIRST COUNT [FIRST COUNT ..]`
-//!                     has the program REPLAY replay the traces that COUNT seeds from FIRST on
-//!                     make, and others, and compares what it prints with the second program; says
-//!                     what was covered, and keeps the first trace that differs in the folder
-//! `compare --one REPLAY FILE [WAY]`
+//! `compare REPLAY REPORT FOLDER FIRST COUNT [FIRST COUNT ..]`
+//!                     has the program REPLAY replay, and the program REPORT report, the traces
+//!                     that COUNT seeds from FIRST on make, and others, and compares what they
+//!                     print with the second program; says what was covered, and keeps the first
+//!                     trace that differs in the folder
+//! `compare --one REPLAY REPORT FILE [WAY]`
 //!                     the same for the trace in a file; WAY says how it is handed over: pipe
 //!                     (the default), file, or pieces:SEED
 //!
-//! Leaves with 0; with 1 if the two differ, if something was never covered or if a program could
-//! not be run; with 2 if called otherwise.
+//! Leaves with 0; with 1 if a program and the second one differ, if something was never covered or if
+//! a program could not be run; with 2 if called otherwise.
 //!
 //! - `task`       which traces are compared
 //! - `hand`       how a trace is handed to a program
-//! - `judge`      one trace, replayed by both
+//! - `judge`      one trace, replayed and reported
 //! - `cover`      what a set of traces covered
 
 #![forbid(unsafe_code)]
@@ -29,20 +30,20 @@ use std::thread;
 
 use crate::cover::Cover;
 use crate::hand::Way;
-use crate::judge::{judge, Difference};
+use crate::judge::{judge, Difference, Programs};
 use crate::task::{tasks, Task};
 
 fn main() -> ExitCode {
     let arguments: Vec<String> = std::env::args().skip(1).collect();
     let words: Vec<&str> = arguments.iter().map(String::as_str).collect();
     let agreed = match words[..] {
-        ["--one", replay, file] => one(replay, file, Way::Pipe),
-        ["--one", replay, file, way] => match Way::of_name(way) {
-            Some(way) => one(replay, file, way),
+        ["--one", replay, report, file] => one(Programs { replay, report }, file, Way::Pipe),
+        ["--one", replay, report, file, way] => match Way::of_name(way) {
+            Some(way) => one(Programs { replay, report }, file, way),
             None => return usage(),
         },
-        [replay, folder, ref seeds @ ..] => match ranges(seeds) {
-            Some(ranges) => many(replay, Path::new(folder), &ranges),
+        [replay, report, folder, ref seeds @ ..] => match ranges(seeds) {
+            Some(ranges) => many(Programs { replay, report }, Path::new(folder), &ranges),
             None => return usage(),
         },
         _ => return usage(),
@@ -58,8 +59,8 @@ fn main() -> ExitCode {
 }
 
 fn usage() -> ExitCode {
-    let ways = "compare REPLAY FOLDER FIRST COUNT [FIRST COUNT ..] | \
-                compare --one REPLAY FILE [pipe|file|pieces:SEED]";
+    let ways = "compare REPLAY REPORT FOLDER FIRST COUNT [FIRST COUNT ..] | \
+                compare --one REPLAY REPORT FILE [pipe|file|pieces:SEED]";
     let _ = writeln!(io::stderr(), "usage: {ways}");
     ExitCode::from(2)
 }
@@ -71,10 +72,10 @@ fn ranges(seeds: &[&str]) -> Option<Vec<(u64, u64)>> {
     whole.then(|| numbers.chunks(2).map(|pair| (pair[0], pair[1])).collect())
 }
 
-fn one(replay: &str, file: &str, way: Way) -> io::Result<bool> {
+fn one(programs: Programs, file: &str, way: Way) -> io::Result<bool> {
     let trace = std::fs::read(file)?;
     let mut out = io::stdout().lock();
-    match judge(replay, &trace, way, &mut Cover::default())? {
+    match judge(programs, &trace, way, &mut Cover::default())? {
         Some(Difference(what)) => {
             writeln!(out, "{file}: {what}")?;
             Ok(false)
@@ -86,19 +87,19 @@ fn one(replay: &str, file: &str, way: Way) -> io::Result<bool> {
     }
 }
 
-/// A trace on which the two programs differ.
+/// A trace on which a program and the second one differ.
 struct Failure {
     task: Task,
     trace: Vec<u8>,
     difference: Difference,
 }
 
-fn many(replay: &str, folder: &Path, ranges: &[(u64, u64)]) -> io::Result<bool> {
+fn many(programs: Programs, folder: &Path, ranges: &[(u64, u64)]) -> io::Result<bool> {
     let waiting = Mutex::new(tasks(ranges));
     let found: Mutex<Option<Failure>> = Mutex::new(None);
     let threads = thread::available_parallelism().map_or(1, usize::from);
     let cover = thread::scope(|scope| {
-        let work = || work(replay, &waiting, &found);
+        let work = || work(programs, &waiting, &found);
         let working: Vec<_> = (0..threads).map(|_| scope.spawn(work)).collect();
         working.into_iter().try_fold(Cover::default(), |sum, thread| match thread.join() {
             Ok(cover) => Ok(sum.and(cover?)),
@@ -106,7 +107,7 @@ fn many(replay: &str, folder: &Path, ranges: &[(u64, u64)]) -> io::Result<bool> 
         })
     })?;
     if let Some(failure) = locked(&found).as_ref() {
-        keep(replay, folder, failure)?;
+        keep(programs, folder, failure)?;
         return Ok(false);
     }
     let mut out = io::stdout().lock();
@@ -120,7 +121,7 @@ fn many(replay: &str, folder: &Path, ranges: &[(u64, u64)]) -> io::Result<bool> 
 
 /// Takes task after task until none is left or a difference is found.
 fn work(
-    replay: &str,
+    programs: Programs,
     waiting: &Mutex<impl Iterator<Item = Task>>,
     found: &Mutex<Option<Failure>>,
 ) -> io::Result<Cover> {
@@ -133,7 +134,7 @@ fn work(
             return Ok(cover);
         };
         let trace = task.trace();
-        if let Some(difference) = judge(replay, &trace, task.way(), &mut cover)? {
+        if let Some(difference) = judge(programs, &trace, task.way(), &mut cover)? {
             locked(found).get_or_insert(Failure { task, trace, difference });
         }
     }
@@ -145,13 +146,14 @@ fn locked<T>(shared: &Mutex<T>) -> MutexGuard<'_, T> {
 }
 
 /// Keeps the trace of a failure and says how to run it alone.
-fn keep(replay: &str, folder: &Path, failure: &Failure) -> io::Result<()> {
+fn keep(programs: Programs, folder: &Path, failure: &Failure) -> io::Result<()> {
     std::fs::create_dir_all(folder)?;
     let file = folder.join(format!("{}.bytes", failure.task));
     std::fs::write(&file, &failure.trace)?;
     let compare = std::env::args().next().unwrap_or("compare".into());
     let (file, way, Difference(what)) = (file.display(), failure.task.way(), &failure.difference);
+    let Programs { replay, report } = programs;
     let mut out = io::stdout().lock();
     writeln!(out, "{} ({way}): {what}", failure.task)?;
-    writeln!(out, "the trace is kept; run it alone: {compare} --one {replay} {file} {way}")
+    writeln!(out, "the trace is kept; run it alone: {compare} --one {replay} {report} {file} {way}")
 }

@@ -8,6 +8,7 @@ use std::collections::{BTreeMap, BTreeSet};
 use crate::event::{Answer, Event, NO_SUCH_REGISTER, NO_SUCH_WORKER};
 use crate::pool::{Link, Pool, Record};
 use crate::reach::{left_to_loops, lost, reached, two_workers_share};
+use crate::report::{sum_of_counts, Cycles, Upon};
 use crate::sound::{sound, tallies_are_the_counts};
 use crate::tally::Tally;
 
@@ -29,6 +30,9 @@ pub struct Check<'a> {
     /// What the last make answered with 0 has made; 0 before the first.
     last_made: u16,
     cycle: Option<Cycle>,
+    /// The cycles as the report has them, and the nets of those that have closed, together.
+    reported: Cycles,
+    nets: i64,
 }
 
 /// One event, seen from outside.
@@ -73,6 +77,8 @@ impl<'a> Check<'a> {
             made_and_not_freed: BTreeSet::new(),
             last_made: 0,
             cycle: None,
+            reported: Cycles::default(),
+            nets: 0,
         }
     }
 
@@ -94,6 +100,7 @@ impl<'a> Check<'a> {
         self.remember_last_seen(&moment);
         self.opening(&moment);
         self.remember_freed(&moment);
+        self.cycle_is_reported(&moment)?;
         self.cycle_is_short(&moment)?;
         self.lost_is_freed(&moment)?;
         self.counts_at_the_close(&moment)
@@ -165,6 +172,31 @@ impl<'a> Check<'a> {
         if let Some(cycle) = &mut self.cycle {
             cycle.freed.extend(moment.freed());
         }
+    }
+
+    /// A report for each cycle: a cycle is reported exactly where one closes, with as many records freed
+    /// as its steps were answered. An entry makes one count fall and one rise at most, and freeing K fall
+    /// at most. What a cycle did to the counts its collector steps did, and between two cycles nothing
+    /// happens to them: so the nets of all cycles, together, are the sum of all counts, the links that
+    /// are counted.
+    fn cycle_is_reported(&mut self, moment: &Moment) -> Result<(), String> {
+        let counts_stay = moment.event == Event::Collect || moment.before.counts == moment.after.counts;
+        hold(counts_stay, || "an event of a worker changes a count".into())?;
+        let reported = self.reported.event(Upon::of(moment.before), moment.after);
+        let closed = self.cycle.as_ref().filter(|_| moment.closes());
+        let freed = |cycle: &Cycle| cycle.freed.len();
+        hold(reported.map(|cycle| cycle.freed) == closed.map(freed), || {
+            format!("reported is {reported:?}, and the cycle that closes has freed {:?}", closed.map(freed))
+        })?;
+        let Some(cycle) = reported else { return Ok(()) };
+        self.tally.cycle(&cycle);
+        let (taken, emptied) = (cycle.taken as i64, cycle.freed as i64 * i64::from(moment.after.sizes.k));
+        hold((-taken - emptied..=taken).contains(&cycle.net), || format!("no cycle can be so: {cycle}"))?;
+        self.nets += cycle.net;
+        let counted = sum_of_counts(moment.after);
+        hold(self.nets == counted, || {
+            format!("the nets of all cycles are {}, and the sum of all counts is {counted}", self.nets)
+        })
     }
 
     /// A cycle closes within 3W + 2S + N + 2 collector steps, the opening and the closing one

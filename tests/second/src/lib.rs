@@ -11,6 +11,7 @@
 //! The program
 //! - `trace`      the fields of a trace, and the order of a field's refusals
 //! - `replay`     a whole trace: what is printed
+//! - `report`     a line for each closed cycle: request 7 of document 02
 //! - `row`        a trace as a row that the proved rules compute
 //! - `join`       parts of a trace, joined: request 3 of document 02
 //!
@@ -43,6 +44,7 @@ pub mod pool;
 pub mod random;
 pub mod reach;
 pub mod replay;
+pub mod report;
 pub mod row;
 pub mod sound;
 pub mod tally;

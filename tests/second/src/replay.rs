@@ -49,7 +49,7 @@ pub fn replay(trace: &[u8], out: &mut impl Write, mut check: Option<&mut Check>)
 }
 
 /// "After a whole trace it prints `end`, how many records are free, the closed-cycle number."
-fn whole(out: &mut impl Write, pool: Option<&Pool>) -> io::Result<Ending> {
+pub fn whole(out: &mut impl Write, pool: Option<&Pool>) -> io::Result<Ending> {
     if let Some(pool) = pool {
         writeln!(out, "end {} {}", pool.free_records(), pool.closed)?;
     }
@@ -57,7 +57,7 @@ fn whole(out: &mut impl Write, pool: Option<&Pool>) -> io::Result<Ending> {
 }
 
 /// "after a refusal `refused`, the number, the offset."
-fn refused(out: &mut impl Write, refusal: Refusal) -> io::Result<Ending> {
+pub fn refused(out: &mut impl Write, refusal: Refusal) -> io::Result<Ending> {
     writeln!(out, "refused {} {}", refusal.number, refusal.offset)?;
     Ok(Ending::Refused(refusal))
 }

@@ -13,6 +13,7 @@ use crate::event::{
 };
 use crate::pool::{Link, Pool, Record, Sizes};
 use crate::replay::Ending;
+use crate::report::Cycle;
 use crate::trace::Kind;
 
 const KINDS: [Kind; 8] =
@@ -97,6 +98,40 @@ pub fn wrongs(before: &Pool, event: Event) -> [bool; WRONGS.len()] {
     ]
 }
 
+/// What a closed cycle may be.
+pub const CYCLES: [&str; 7] = [
+    "cycle: its net is below nought",
+    "cycle: its net is below nought, and no record is freed",
+    "cycle: its net is nought, and entries are taken",
+    "cycle: its net is above nought",
+    "cycle: its net is above nought, and records are freed",
+    "cycle: nothing is taken, and several records are freed",
+    "cycle: nothing is taken and nothing is freed",
+];
+
+/// Which of these hold of a cycle.
+pub fn cycles(cycle: &Cycle) -> [bool; CYCLES.len()] {
+    let Cycle { taken, freed, net } = *cycle;
+    [
+        net < 0,
+        net < 0 && freed == 0,
+        net == 0 && taken > 0,
+        net > 0,
+        net > 0 && freed > 0,
+        taken == 0 && freed > 1,
+        taken == 0 && freed == 0,
+    ]
+}
+
+/// How a trace may leave a cycle.
+pub const LEFT_OPEN: [&str; 2] =
+    ["a trace is refused in an open cycle", "a whole trace ends in an open cycle"];
+
+/// Which of these hold of a trace.
+pub fn left_open(ending: &Ending, is_open: bool) -> [bool; LEFT_OPEN.len()] {
+    [is_open && matches!(ending, Ending::Refused(_)), is_open && *ending == Ending::Whole]
+}
+
 /// Situations that the rules are about and an answer number does not show.
 const SITUATIONS: [&str; 10] = [
     "store logs an overwritten record",
@@ -123,8 +158,12 @@ pub struct Tally {
     wrongs: [u64; WRONGS.len()],
     situations: [u64; SITUATIONS.len()],
     sizes_fields: [u64; SIZES_FIELDS.len()],
+    cycles: [u64; CYCLES.len()],
+    left_open: [u64; LEFT_OPEN.len()],
     board: Board,
     last_maker: BTreeMap<Record, u8>,
+    /// Whether a cycle is open.
+    is_open: bool,
 }
 
 impl Tally {
@@ -146,6 +185,7 @@ impl Tally {
             return;
         }
         self.board.event(before, event, answer, after);
+        self.is_open = after.phase != 0;
         let phase = usize::from(before.phase);
         for (done, kind) in self.done.iter_mut().zip(KINDS) {
             done[phase] += u64::from(kind == event.kind());
@@ -212,10 +252,21 @@ impl Tally {
         self.situations[9] += u64::from(shared);
     }
 
+    /// A cycle closes.
+    pub fn cycle(&mut self, cycle: &Cycle) {
+        for (times, came) in self.cycles.iter_mut().zip(cycles(cycle)) {
+            *times += u64::from(came);
+        }
+    }
+
     /// The end of a trace.
     pub fn ending(&mut self, ending: &Ending, damage: Option<Damage>) {
         self.traces += 1;
         self.last_maker.clear();
+        let is_open = std::mem::take(&mut self.is_open);
+        for (times, came) in self.left_open.iter_mut().zip(left_open(ending, is_open)) {
+            *times += u64::from(came);
+        }
         match ending {
             Ending::Whole => self.whole += 1,
             Ending::Refused(refusal) => self.answered(refusal.number),
@@ -232,8 +283,10 @@ impl Tally {
         let wrongs = self.wrongs.iter().copied().zip(WRONGS);
         let situations = self.situations.iter().copied().zip(SITUATIONS);
         let sizes_fields = self.sizes_fields.iter().copied().zip(SIZES_FIELDS);
+        let cycles = self.cycles.iter().copied().zip(CYCLES);
+        let left_open = self.left_open.iter().copied().zip(LEFT_OPEN);
         let board = self.board.situations.iter().copied().zip(board::SITUATIONS);
-        makes.chain(wrongs).chain(situations).chain(sizes_fields).chain(board)
+        makes.chain(wrongs).chain(situations).chain(sizes_fields).chain(cycles).chain(left_open).chain(board)
     }
 
     /// What should have been reached and was not, and what was reached and cannot be.

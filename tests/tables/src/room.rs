@@ -1,9 +1,11 @@
-//! The slice that a caller lends for the answers of many events: of any length, with anything in
-//! it. Each event's number and value go there in turn, as far as there is room for both.
+//! The slices that a caller lends for the answers of many events, a number and a value for each, and for
+//! the cycles of a trace, three numbers for each: of any length, with anything in them. What goes there
+//! goes in turn, as far as there is room for all of one.
 
 use second::event::Answer;
 use second::pool::Record;
 use second::random::Random;
+use second::report::Cycle;
 
 pub const WORDS: [&str; 5] = [
     "room for no answer",
@@ -13,9 +15,34 @@ pub const WORDS: [&str; 5] = [
     "room to spare",
 ];
 
+pub const CYCLE_WORDS: [&str; 5] = [
+    "room for no cycle",
+    "room for some cycles",
+    "room for some cycles and a part of one",
+    "room for all cycles",
+    "room to spare for cycles",
+];
+
 /// Room for the answers of so many events, or for fewer or more.
 pub fn any(events: usize, random: &mut Random) -> (Vec<u16>, &'static str) {
-    let all = 2 * events;
+    let (length, words) = length_and_words(events, 2, WORDS, random);
+    ((0..length).map(|_| random.number() as u16).collect(), words)
+}
+
+/// Room for so many cycles, or for fewer or more.
+pub fn any_for_cycles(cycles: usize, random: &mut Random) -> (Vec<i64>, &'static str) {
+    let (length, words) = length_and_words(cycles, 3, CYCLE_WORDS, random);
+    ((0..length).map(|_| random.number() as i64).collect(), words)
+}
+
+/// A length around that of so many things of so many numbers each, and in words what it is.
+fn length_and_words(
+    things: usize,
+    each: usize,
+    words: [&'static str; 5],
+    random: &mut Random,
+) -> (usize, &'static str) {
+    let all = each * things;
     let length = match random.below(6) {
         0 => 0,
         1 | 2 => random.below(all),
@@ -23,14 +50,14 @@ pub fn any(events: usize, random: &mut Random) -> (Vec<u16>, &'static str) {
         4 => all + 1,
         _ => all + random.below(20),
     };
-    let words = match length {
-        0 if all > 0 => WORDS[0],
-        _ if length == all => WORDS[3],
-        _ if length > all => WORDS[4],
-        _ if length % 2 == 0 => WORDS[1],
-        _ => WORDS[2],
+    let which = match length {
+        0 if all > 0 => 0,
+        _ if length == all => 3,
+        _ if length > all => 4,
+        _ if length % each == 0 => 1,
+        _ => 2,
     };
-    ((0..length).map(|_| random.number() as u16).collect(), words)
+    (length, words[which])
 }
 
 /// The room with the answers in it; what lies behind the last stays.
@@ -41,10 +68,18 @@ pub fn put(mut room: Vec<u16>, answers: &[Answer]) -> Vec<u16> {
     room
 }
 
+/// The room with the cycles in it.
+pub fn put_cycles(mut room: Vec<i64>, cycles: &[Cycle]) -> Vec<i64> {
+    for (three, cycle) in room.chunks_exact_mut(3).zip(cycles) {
+        three.copy_from_slice(&[cycle.taken as i64, cycle.freed as i64, cycle.net]);
+    }
+    room
+}
+
 /// Where the slices differ first.
-pub fn same(expected: &[u16], found: &[u16]) -> Result<(), String> {
+pub fn same<T: PartialEq + std::fmt::Display>(expected: &[T], found: &[T]) -> Result<(), String> {
     match (0..expected.len()).find(|at| expected[*at] != found[*at]) {
-        Some(at) => Err(format!("the answers at {at} are {} and should be {}", found[at], expected[at])),
+        Some(at) => Err(format!("the numbers at {at} are {} and should be {}", found[at], expected[at])),
         None => Ok(()),
     }
 }

@@ -7,7 +7,8 @@ use borrow.Author.Needs.{needs}
 use lib.ListN.{length, take}
 use Rattle.parts.specs.Arrays.{aside}
 use Rattle.parts.proofs.Front.{counted}
-use Rattle.replay.proofs.Turn.{Ready, ready-first, part-waiting, part-place, place-fits}
+use Rattle.parts.proofs.Turn.{place-fits}
+use Rattle.replay.proofs.Turn.{Ready, ready-first, text-waiting, text-place}
 use Rattle.replay.proofs.main.Statement.{statement}
 use Rattle.replay.proofs.main.Tie as tie
 use Rattle.replay.proofs.main.Reads as reads
@@ -53,7 +54,7 @@ waits-there : (c : tie.After-enum-told Inv-loop μ-loop)
     → let part = c .before .before .before .before .before .before .before .before .before .before .before .before .before .before .before .before .before .before .before .before in (part .part-text .result .part .next ≤ fromPart part .read-more .result .n) × (fromPart part .read-more .result .n < part .part-text .result .part .next + 13)
 waits-there c =
     let part = c .before .before .before .before .before .before .before .before .before .before .before .before .before .before .before .before .before .before .before .before in
-    let w = part-waiting _ _ _ _ (part .part-text .ensures) (c .enum-told .given .1) in
+    let w = text-waiting _ _ _ _ (part .part-text .ensures) (c .enum-told .given .1) in
     let long = part-long (part .before .before .before .before .before .before .before .before .before .before .before .before .before .before .before .before .before .before) in
     (omega (arith, w .0, long), omega (arith, w .1, long))
 
@@ -155,7 +156,7 @@ put-ending-requires c κs =
     let part = c .before .before .before .before .before .before .before .before .before .before .before .before .before .before .before .before .before .before .before .before .before .before in
     let read = fromPart part in
     let at = fromRead read .loop in
-    let place = part-place _ _ _ _ (part .part-text .ensures) (c .before .before .stand .given .1) in (
+    let place = text-place _ _ _ _ (part .part-text .ensures) (c .before .before .stand .given .1) in (
       omega (arith, text-long (c .before .before .before .before .before .before .before .before)),
       place-fits (at .base) (length (take (read .read-more .result .n) (read .read-more .last .0))) (c .before .before .stand .given .0 .0) (omega (arith, at .inv .near)) (omega (arith, part-long (part .before .before .before .before .before .before .before .before .before .before .before .before .before .before .before .before .before .before), read-most (part .before .before .before .before .before .before .before .before .before .before .before .before .before .before .before .before .before .before))) place,
     )

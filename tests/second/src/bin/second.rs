@@ -1,5 +1,6 @@
 //! `second`            replays the trace on standard input
 //! `second --check`    the same, and holds every event to the documents and the tender
+//! `second --report`   reports the trace on standard input: a line for each closed cycle
 //! `second --row NAME MOST`
 //!                     turns the trace on standard input into a row that the proved rules compute;
 //!                     into nothing where it is refused or has more events than MOST
@@ -21,6 +22,7 @@ use second::check::Check;
 use second::join::join;
 use second::many::{many, Failure};
 use second::replay::{replay, Ending};
+use second::report::report;
 use second::row::row;
 use second::tally::Tally;
 
@@ -30,6 +32,7 @@ fn main() -> ExitCode {
     let done = match words[..] {
         [] => replay_input(false),
         ["--check"] => replay_input(true),
+        ["--report"] => report_input(),
         ["--row", name, most] => match most.parse() {
             Ok(most) => row_of_input(name, most),
             Err(_) => return usage(),
@@ -52,7 +55,7 @@ fn main() -> ExitCode {
 }
 
 fn usage() -> ExitCode {
-    let ways = "second [--check] < BYTES | second --row NAME MOST < BYTES | \
+    let ways = "second [--check | --report] < BYTES | second --row NAME MOST < BYTES | \
                 second --many FOLDER FIRST COUNT [FIRST COUNT ..] | second --join PART [PART ..]";
     let _ = writeln!(io::stderr(), "usage: {ways}");
     ExitCode::from(2)
@@ -81,6 +84,13 @@ fn replay_input(checked: bool) -> io::Result<bool> {
         writeln!(io::stderr(), "failed at step {step}: {sentence}")?;
         return Ok(false);
     }
+    Ok(true)
+}
+
+fn report_input() -> io::Result<bool> {
+    let mut out = BufWriter::new(io::stdout().lock());
+    report(&input()?, &mut out)?;
+    out.flush()?;
     Ok(true)
 }
 

@@ -1,0 +1,5 @@
+-- What is proved of the numbers of a trace's cycles.
+--     Tallying     events done and tallied one by one on lent tables
+--     Whole        the report of a trace, by what stands at its start
+pub mod Tallying
+pub mod Whole
