@@ -127,7 +127,8 @@ typedef struct yuyarisun_table {
     size_t length;
 } yuyarisun_table;
 
-/* The collector's own record. Each call takes it and moves it on. */
+/* The collector's own record. Each call takes it and moves it on. A cycle opens with the step out of phase 0 and closes with the step back to it, which counts
+ * `closed` up. */
 typedef struct yuyarisun_collector {
     uint16_t phase, position, closed;
 } yuyarisun_collector;
@@ -235,7 +236,8 @@ uint16_t yuyarisun_look(YUYARISUN_LENT, uint16_t *value, uint8_t worker, uint8_t
 /* post: the board entry takes what the register `from` holds. The value is the one overwritten. Answers 0, 1, 2, 3, 13 or 14. */
 uint16_t yuyarisun_post(YUYARISUN_LENT, uint16_t *value, uint8_t worker, uint8_t entry, uint8_t from);
 
-/* collect: one collector step. The value is the record freed, otherwise 0. Answers 0, 1 or 2. */
+/* collect: one collector step. The value is the record freed, otherwise 0, which does not say that a cycle has closed: a step may only empty links of a record that
+ * waits to be freed. Answers 0, 1 or 2. */
 uint16_t yuyarisun_collect(YUYARISUN_LENT, uint16_t *value);
 
 /* Makes the tables a fresh pool, whatever they held. Answers 0 or 1. */

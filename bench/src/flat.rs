@@ -336,31 +336,50 @@ impl<const N: usize, const K: usize, const W: usize, const R: usize, const B: us
         }
     }
 
+    fn is_changed(&self, place: usize) -> bool {
+        self.changed[place].contains(&true)
+    }
+
+    /// Whether an unchanged link of it holds a record.
+    fn has_child(&self, place: usize) -> bool {
+        self.changed[place].iter().zip(&self.values[place]).any(|(changed, value)| !changed && *value != 0)
+    }
+
     fn passes(&self, place: usize) -> bool {
         self.candidates[place]
             && self.counts[place] == 0
             && self.used[place]
             && !self.held[place]
-            && !self.changed[place].contains(&true)
+            && (!self.is_changed(place) || self.has_child(place))
     }
 
     fn reclaim(&mut self) -> u16 {
         let Some(place) = (0..self.n).find(|place| self.passes(*place)) else {
-            self.held = [false; N];
-            for place in 0..self.n {
-                self.candidates[place] &= self.counts[place] == 0;
-            }
-            self.closed = self.closed.wrapping_add(1);
-            self.phase = 0;
+            self.close();
             return 0;
         };
+        let waits = self.is_changed(place);
         for f in 0..self.k {
-            let value = self.values[place][f];
-            self.values[place][f] = 0;
-            self.falls(value);
+            if !self.changed[place][f] {
+                let value = self.values[place][f];
+                self.values[place][f] = 0;
+                self.falls(value);
+            }
+        }
+        if waits {
+            return 0;
         }
         self.used[place] = false;
         self.candidates[place] = false;
         place as u16 + 1
+    }
+
+    fn close(&mut self) {
+        self.held = [false; N];
+        for place in 0..self.n {
+            self.candidates[place] &= self.counts[place] == 0;
+        }
+        self.closed = self.closed.wrapping_add(1);
+        self.phase = 0;
     }
 }

@@ -93,21 +93,34 @@ pub fn all_changed(sizes: Sizes, position: usize, written: Written) -> Lent {
     worked(sizes, 5, position as u16, Lists { logs, history: all })
 }
 
-/// Phase 6; each record is a candidate and fails at its last link only, but for the one that passes.
-fn searched(sizes: Sizes, passes: Option<usize>) -> Lent {
+/// What the search of phase 6 finds, behind all others that it looks at.
+enum Found {
+    Nothing,
+    /// A record that is freed.
+    Freed(usize),
+    /// One that waits, with children in all its links but the last.
+    Waiting(usize),
+}
+
+/// Phase 6; each record is a candidate and waits without children, by a changed mark on its last link, but
+/// for the one that is found.
+fn searched(sizes: Sizes, found: Found) -> Lent {
     let (n, k) = (sizes.n as usize, sizes.k as usize);
+    let (freed, links) = match found {
+        Found::Nothing => (None, 0..0),
+        Found::Freed(place) => (Some(place), place * k..place * k + k),
+        Found::Waiting(place) => (None, place * k..place * k + k - 1),
+    };
     let log: Vec<usize> =
-        (0..n).filter(|place| Some(*place) != passes).map(|place| place * k + k - 1).collect();
+        (0..n).filter(|place| Some(*place) != freed).map(|place| place * k + k - 1).collect();
     let mut pool = worked(sizes, 6, 0, Lists { logs: vec![log], history: Vec::new() });
     let tables = &mut pool.tables;
     tables.values.fill(0);
     for old in tables.logs.iter_mut().skip(1).step_by(2) {
         *old = 0;
     }
-    if let Some(place) = passes {
-        for f in 0..k {
-            tables.values[place * k + f] = f as u16 % sizes.n + 1;
-        }
+    for (link, a) in links.zip((1..=sizes.n).cycle()) {
+        tables.values[link] = a;
     }
     tables.counts.fill(0);
     for value in &tables.values {
@@ -182,8 +195,21 @@ pub fn all(sizes: Sizes) -> Vec<Situation> {
             &all_changed(sizes, s - 1, Written::First),
             Event::Collect,
         ),
-        situation("phase 6, all searched, the last freed", &searched(sizes, Some(last)), Event::Collect),
-        situation("phase 6, all searched, the cycle closed", &searched(sizes, None), Event::Collect),
+        situation(
+            "phase 6, all searched, the last freed",
+            &searched(sizes, Found::Freed(last)),
+            Event::Collect,
+        ),
+        situation(
+            "phase 6, all searched, the last waits and is emptied",
+            &searched(sizes, Found::Waiting(last)),
+            Event::Collect,
+        ),
+        situation(
+            "phase 6, all searched, all wait, the cycle closed",
+            &searched(sizes, Found::Nothing),
+            Event::Collect,
+        ),
     ]
 }
 

@@ -223,7 +223,8 @@ impl Pool {
     /// One collector step; the record that it freed, if it freed one. It is never refused.
     ///
     /// How far it has come is [`Pool::collector`]: a cycle opens with the step out of phase 0 and
-    /// closes with the step back to it.
+    /// closes with the step back to it. None says nothing of a close: a step may only empty links of a
+    /// record that waits to be freed.
     ///
     /// ```
     /// use yuyarisun::{Pool, Sizes};

@@ -45,6 +45,35 @@ fn every_record_is_made_and_then_none_is_free() {
     assert_eq!(pool.free_records(), 0);
 }
 
+/// Chain 1 to 2 to 3, whose head is stored to after the log was taken and dropped before the scan: it waits.
+/// The step that empties its link to 2 frees none, and closes no cycle.
+#[test]
+fn a_waiting_record_gives_up_its_child() -> Result<(), Refusal> {
+    let mut pool = pool(3, 2, 1, 3);
+    for r in 0..3 {
+        pool.make(0, r)?;
+    }
+    pool.store(0, 0, 0, 1)?;
+    pool.store(0, 1, 0, 2)?;
+    pool.drop_register(0, 1)?;
+    pool.drop_register(0, 2)?;
+    while pool.collector().phase < 4 {
+        assert_eq!(pool.collect(), None);
+    }
+    pool.store(0, 0, 1, 1)?;
+    pool.drop_register(0, 0)?;
+    while pool.collector().phase < 6 {
+        assert_eq!(pool.collect(), None);
+    }
+    assert_eq!(pool.tables().values, [2, 0, 3, 0, 0, 0]);
+    assert_eq!(pool.collect(), None);
+    assert_eq!(pool.tables().values, [0, 0, 3, 0, 0, 0]);
+    assert_eq!((pool.collector().phase, pool.collector().closed, pool.free_records()), (6, 0, 0));
+    assert_eq!(cycle(&mut pool), [2, 3]);
+    assert_eq!(cycle(&mut pool), [1]);
+    Ok(())
+}
+
 /// Each record made is lost and freed before the next is made; then two stay, and one comes straight
 /// back.
 #[test]

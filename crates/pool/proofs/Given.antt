@@ -52,7 +52,7 @@ module _ {s : Sizes} {p : Pool} (sound : Sound s p) where
   unfolding number opens snoops takes clears scans counts
   collect-done =
       by-phase s p (λ o. number (o .answer) ≡ 0) (sound .phase) (λ e. refl) (λ e. refl) (λ e. refl) (λ e. refl) (λ e. refl) (λ e. refl)
-      (λ e. reclaims-cases s p (λ o. number (o .answer) ≡ 0) (λ z. refl) (λ y some low pass. refl))
+      (λ e. reclaims-cases s p (λ o. number (o .answer) ≡ 0) (λ z. refl) (λ y some low pass off. refl) (λ y some low pass on. refl))
 
   pub never-one-or-two : (e : Event) → OfAnEvent (number (outcome s p e .answer))
   unfolding outcome refusals does noneFree makes moves drops registerTakes loads looks linkTakes stores posts number refusalNumber

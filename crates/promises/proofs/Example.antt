@@ -1,12 +1,13 @@
 -- The promises speak of something: document 01's listing has a cycle, and at its opening record 1 is lost and no loop keeps it. So the third promise says of it what
 -- the listing prints, that record 1 is freed in that cycle. And its "loops aside" can't be left out: a record that is linked to itself and lost stays.
--- Two workers share a record through the board.
+-- Two workers share a record through the board. And a step of phase 6 that answers 0 need not close the cycle: it may have emptied a link, and the collector saw that.
 --     begun, opened        the listing's make and drop, and the pool then
 --     one-cycle            its six collect events are a cycle
 --     one-lost, no-loop    record 1 is lost, and no closed loop keeps it
 --     one-freed            so it is freed
 --     self-stays           where record 1 is linked to itself before the drop, it is lost, a loop keeps it, and the cycle does not free it
 --     two-workers-share    what one worker posts and another looks at, both hold
+--     waiting-gives-up     a record that waits: its unchanged link is emptied, its cycle goes on, and its child is freed in it
 -- Assumes nothing.
 use Prim.Native.Nat.{ℕ, zero, suc}
 use mathlib.Core.Path.{_≡_, refl, sym, ap, _∙_}
@@ -16,16 +17,19 @@ use mathlib.Core.List.{List, [], _∷_}
 use native.Mathlib.Omega.{arith}
 use Rattle.rules.specs.declared.Sizes.{Sizes}
 use Rattle.rules.specs.declared.RecordNumber.{RecordNumber}
+use Rattle.rules.specs.declared.LinkNumber.{LinkNumber}
 use Rattle.rules.specs.declared.Event.{Event}
 use Rattle.rules.specs.declared.Event.the-variants.{Make, Drop, Store, Look, Post, Collect}
 use Rattle.rules.specs.Size.{linkNumber}
 use Rattle.rules.specs.Pool.{Pool, none, usedAt, valueAt, registerAt, fresh}
-use Rattle.rules.specs.Outcome.{answers, after, answersFreed}
+use Rattle.rules.specs.Reply.{value, Outcome}
+use Rattle.rules.specs.Outcome.{outcome, answers, after, answersFreed}
 use Rattle.rules.specs.Starred.{sizesOf, sizesAndBoard}
 use Rattle.rules.proofs.Starred.{computes}
 use Rattle.promises.specs.Reach.{Reaches, holds}
 use Rattle.promises.specs.Cycle.{Cycle, closing, going-on, freedAmong}
 use Rattle.promises.specs.Lost.{Lost, LeadsTo, link, on, LoopKeeps}
+use Rattle.promises.specs.Seen.{emptiedBy, seenAfter, lastSeen}
 use Rattle.promises.proofs.Promises.{lost-is-freed}
 use Rattle.promises.proofs.Reached.{nothing-reached}
 
@@ -139,3 +143,36 @@ passed-on = Make 0 0 ∷ Post 0 0 0 ∷ Look 1 0 0 ∷ []
 pub two-workers-share : Reaches board-sizes (after board-sizes (fresh board-sizes) passed-on) 0 one × Reaches board-sizes (after board-sizes (fresh board-sizes) passed-on) 1 one
 unfolding computes
 two-workers-share = (holds 0 refl (omega arith), holds 0 refl (omega arith))
+
+-- ---- a record that waits
+
+abbrev two : RecordNumber
+two = record { 0 = 2 }
+
+abbrev waiting-sizes : Sizes
+waiting-sizes = sizesOf 2 2 1 2
+
+-- record 1 has record 2 in its link 0. The first four steps lead to phase 4: there link 1 is stored to, and record 1 is dropped before the scan. Two steps more lead to phase 6
+abbrev waiting-events : List Event
+waiting-events =
+    Make 0 0 ∷ Make 0 1 ∷ Store 0 0 0 1 ∷ Drop 0 1 ∷ Collect ∷ Collect ∷ Collect ∷ Collect ∷ Store 0 0 1 1 ∷ Drop 0 0 ∷ Collect ∷ Collect ∷ []
+
+abbrev waiting : Pool
+waiting = after waiting-sizes (fresh waiting-sizes) waiting-events
+
+abbrev gave-up : Outcome
+gave-up = outcome waiting-sizes waiting Collect
+
+-- what the collector saw of link 0 before the next step, and after it
+abbrev seen-before : LinkNumber → RecordNumber
+seen-before = lastSeen waiting-sizes (fresh waiting-sizes) (λ l. none) waiting-events
+
+abbrev first : LinkNumber
+first = linkNumber waiting-sizes one 0
+
+pub waiting-gives-up : (value (gave-up .answer) ≡ 0) × (gave-up .pool .collector .phase ≡ 6) × (usedAt (gave-up .pool) one ≡ true)
+    × (seen-before first ≡ two)
+    × (seenAfter waiting-sizes waiting Collect seen-before first ≡ none)
+    × (answersFreed two Collect (outcome waiting-sizes (gave-up .pool) Collect .answer) ≡ true)
+unfolding computes lastSeen seenAfter emptiedBy answersFreed
+waiting-gives-up = (refl, refl, refl, refl, refl, refl)

@@ -1,9 +1,15 @@
--- Phase 6 keeps the invariant: the record that it frees is named nowhere and is not kept, so that emptying its links takes nothing away from what is.
+-- Phase 6 keeps the invariant, whether it frees the record that it takes or empties the unchanged links of a record that waits.
+-- Why emptying is safe. A record that waits has a link with an entry outstanding: a worker stored to it after the clearing. Yet nobody can reach it any more. Its count
+-- is 0, so no view value is it; it is not held; and it has no maker, since a record made since its maker's log was taken is a candidate only if it is held. So
+-- nothing keeps it, while every register and every marked link holds none or what is kept: no register holds it, no link has it for its present value or its view
+-- value, and no log names it (`passed-unnamed`). A worker comes to a link through a register or through other links alone, so none will ever see what this record's links
+-- hold. And no path of view values between kept records goes through it, so that emptying takes nothing away from what is kept. Its changed link stays as it is,
+-- with its entry and with the count for its view value, until the next cycle takes the entry.
 --     Unkept, Unnamed             a record that nothing keeps, and that nothing names either
 --     unkept               it is not kept
 --     passed-unnamed                 a record that phase 6 takes is unnamed
 --     named-emptied, phased-emptied, unnamed-emptied     one of its links is emptied
---     emptied-through             all of them are
+--     emptied-through             all that are unchanged are
 --     named-freed, phased-freed   it is freed
 --     named-closed                the close
 -- Assumes nothing.
@@ -13,16 +19,16 @@ use mathlib.Core.Logic.{⊎-elim}
 use mathlib.Core.Bool.{Bool, true, false, cond, true≢false}
 use mathlib.Core.List.{List, []}
 use native.Mathlib.Omega.{arith}
-use borrow.Author.Tests.{eq-eqb}
+use borrow.Author.Tests.{eq-eqb, not-true}
 use lib.ListN.{length, getD, List·getD-eq-default}
 use lib.Seq.{getD-set-other}
 use Rattle.rules.specs.declared.Sizes.{Sizes}
 use Rattle.rules.specs.declared.RecordNumber.{RecordNumber}
 use Rattle.rules.specs.declared.LinkNumber.{LinkNumber}
 use Rattle.rules.specs.Size.{links, linkNumber, boardNumber}
-use Rattle.rules.specs.Pool.{Entry, Pool, none, withRecord, usedAt, heldAt, candidateAt, makerAt, valueAt, changedAt, registersAt, registerAt, withUsed, withCandidate}
+use Rattle.rules.specs.Pool.{Entry, Pool, none, usedAt, heldAt, candidateAt, makerAt, valueAt, changedAt, registersAt, registerAt}
 use Rattle.rules.specs.View.{bit, times, oldIn, allLogs, lookUp, viewValue}
-use Rattle.rules.specs.Collect.{falls, emptied, emptiedFrom, closes}
+use Rattle.rules.specs.Collect.{falls, isUnchanged, emptied, becomesFree, empties, closes}
 use Rattle.rules.specs.Sound.{Each, EntryInRange}
 use Rattle.laws.proofs.Tests.{eqb-cases, below-or-not, bit-on}
 use Rattle.laws.proofs.Number.{record-same, link-inside, link-apart, board-apart}
@@ -34,7 +40,7 @@ use Rattle.laws.proofs.Tally.{tally-here}
 use Rattle.laws.proofs.Search.{Passed}
 use Rattle.laws.proofs.Marks.{on-some, maker-some, falls-other, closes-candidate}
 use Rattle.soundness.proofs.Core.{Core, times-most}
-use Rattle.promises.proofs.Invariant.{Used, Kept, by-held, by-maker, by-mark, by-board, by-view, NoneOrKept, Since, Named, Phased}
+use Rattle.promises.proofs.Invariant.{Used, Kept, by-held, by-maker, by-board, by-view, NoneOrKept, Since, Named, Phased}
 use Rattle.promises.proofs.Grow.{free-falls, kept-grows}
 
 -- ---- unkept, unnamed
@@ -43,13 +49,11 @@ use Rattle.promises.proofs.Grow.{free-falls, kept-grows}
 pub record Unkept (s : Sizes) (p : Pool) (y : RecordNumber) : Type 0 where
   pub held : heldAt p y ≡ false
   pub maker : makerAt p y ≡ 0
-  pub unmarked : (f : ℕ) → f < s .k → changedAt p (linkNumber s y f) ≡ false
   pub view : (l : LinkNumber) → viewValue p l .0 ≡ y .0 → ⊥
 
 pub unkept : {s : Sizes} {p : Pool} {y : RecordNumber} → Unkept s p y → Kept s p y → ⊥
 unkept u (by-held h) = true≢false (sym h ∙ u .held)
 unkept u (by-maker h) = omega (arith, u .maker)
-unkept u (by-mark f some k h) = true≢false (sym h ∙ u .unmarked f k)
 unkept {s} u (by-board e k x some) = u .view (boardNumber s e) (ap (λ (b : RecordNumber). b .0) x)
 unkept {s} u (by-view {a = a} f x k e some) = u .view (linkNumber s a f) (ap (λ (b : RecordNumber). b .0) e)
 
@@ -64,13 +68,12 @@ pub record Unnamed (s : Sizes) (p : Pool) (y : RecordNumber) : Type 0 where
 kept-some : {s : Sizes} {p : Pool} {a : RecordNumber} → Kept s p a → 1 ≤ a .0
 kept-some {s} {p} (by-held {a = a} h) = on-some (p .records .held) a.0 h
 kept-some {s} {p} (by-maker {a = a} h) = maker-some p a (makerAt p a - 1) (omega arith)
-kept-some (by-mark f some k h) = some
 kept-some (by-board e k x some) = some
 kept-some (by-view f x k e some) = some
 
 -- ---- what phase 6 takes is unnamed
 
-module _ {s : Sizes} {p : Pool} (c : Core s p [] []) {i : ℕ} (x : Phased s p 6 i) (empty : p .history ≡ []) (y : RecordNumber) (some : 1 ≤ y .0) (low : y .0 ≤ s .n) (pass : Passed s p y) where
+module _ {s : Sizes} {p : Pool} (c : Core s p [] []) {i : ℕ} (x : Phased s p 6 i) (empty : p .history ≡ []) (y : RecordNumber) (some : 1 ≤ y .0) (low : y .0 ≤ s .n) (pass : Passed p y) where
   -- a link number that is not below S has nothing
   beyond-value : (l : LinkNumber) → links s ≤ l .0 → valueAt p l ≡ none
   beyond-value l h = List·getD-eq-default (p .links .value) none (omega (arith, c .shaped .links .value))
@@ -106,7 +109,7 @@ module _ {s : Sizes} {p : Pool} (c : Core s p [] []) {i : ℕ} (x : Phased s p 6
           absurd (true≢false (sym (x .since y v e (omega (arith, c .makers y)) .candidate (pass .candidate)) ∙ pass .held))
 
   nothing-keeps : Unkept s p y
-  nothing-keeps = record { held = pass .held; maker = no-maker; unmarked = pass .unchanged; view = no-view }
+  nothing-keeps = record { held = pass .held; maker = no-maker; view = no-view }
 
   is-y : (a : RecordNumber) → a .0 ≡ y .0 → NoneOrKept s p a → ⊥
   is-y a e k = unkept nothing-keeps (subst (Kept s p) (record-same a y e) (k (omega arith)))
@@ -142,12 +145,9 @@ module _ {s : Sizes} {p : Pool} (c : Core s p [] []) {i : ℕ} (x : Phased s p 6
 
 -- ---- one of its links is emptied
 
-module _ {s : Sizes} {p : Pool} (y : RecordNumber) (some : 1 ≤ y .0) (low : y .0 ≤ s .n) (g : ℕ) (inside : g < s .k) (unnamed : Unnamed s p y) where
+module _ {s : Sizes} {p : Pool} (y : RecordNumber) (some : 1 ≤ y .0) (low : y .0 ≤ s .n) (g : ℕ) (inside : g < s .k) (off : changedAt p (linkNumber s y g) ≡ false) (unnamed : Unnamed s p y) where
   abbrev l : LinkNumber
   l = linkNumber s y g
-
-  off : changedAt p l ≡ false
-  off = unnamed .unkept .unmarked g inside
 
   -- a link's value, and its view value, stay or become none
   value-emptied : (P : RecordNumber → Type 0) (m : LinkNumber) → P none → P (valueAt p m) → P (valueAt (emptied l p) m)
@@ -194,7 +194,6 @@ module _ {s : Sizes} {p : Pool} (y : RecordNumber) (some : 1 ≤ y .0) (low : y 
   unfolding emptied falls
   kept-emptied (by-held h) = by-held h
   kept-emptied (by-maker h) = by-maker h
-  kept-emptied (by-mark f some-a k h) = by-mark f some-a k h
   kept-emptied (by-board e k x some-b) = by-board e k (view-board e ∙ x) some-b
   kept-emptied (by-view {a = a} f x k e some-b) =
       by-view f (kept-emptied x) k
@@ -239,7 +238,6 @@ module _ {s : Sizes} {p : Pool} (y : RecordNumber) (some : 1 ≤ y .0) (low : y 
             record {
               held = unnamed .unkept .held;
               maker = unnamed .unkept .maker;
-              unmarked = unnamed .unkept .unmarked;
               view = λ m. view-emptied (λ b. b .0 ≡ y .0 → ⊥) m (λ e. omega arith) (unnamed .unkept .view m);
             };
         register = unnamed .register;
@@ -248,31 +246,39 @@ module _ {s : Sizes} {p : Pool} (y : RecordNumber) (some : 1 ≤ y .0) (low : y 
         history = unnamed .history;
       }
 
--- ---- all of its links are emptied
+-- ---- all of its unchanged links are emptied
 
 pub record Emptied (s : Sizes) (y : RecordNumber) (i : ℕ) (p : Pool) : Type 0 where
   pub named : Named s p
   pub phased : Phased s p 6 i
   pub unnamed : Unnamed s p y
 
-pub emptied-through : (s : Sizes) (y : RecordNumber) (i : ℕ) (p : Pool) → 1 ≤ y .0 → y .0 ≤ s .n → Emptied s y i p → Emptied s y i (emptiedFrom s y 0 (s .k) p)
-emptied-through s y i p some low =
-    emptied-has (Emptied s y i) s y 0 (s .k) (λ g a b q x.
+pub emptied-through : (s : Sizes) (y : RecordNumber) (i : ℕ) (p : Pool) → 1 ≤ y .0 → y .0 ≤ s .n → Emptied s y i p → Emptied s y i (empties s y p)
+unfolding empties emptied falls
+emptied-through s y i p some low start =
+    emptied-has (isUnchanged p) s y (λ q. Emptied s y i q × (q .links .changed ≡ p .links .changed)) 0 (s .k)
+    (λ g a b off q x.
     let inside : g < s .k = omega arith in
-    record {
-      named = named-emptied y some low g inside (x .unnamed) (x .named);
-      phased = phased-emptied y some low g inside (x .unnamed) (x .phased);
-      unnamed = unnamed-emptied y some low g inside (x .unnamed);
-    })
+    let l : LinkNumber = linkNumber s y g in
+    let still-off : changedAt q l ≡ false = ap (λ marks. getD marks l.0 false) (x .1) ∙ not-true (changedAt p l) off in (
+      record {
+        named = named-emptied y some low g inside still-off (x .0 .unnamed) (x .0 .named);
+        phased = phased-emptied y some low g inside still-off (x .0 .unnamed) (x .0 .phased);
+        unnamed = unnamed-emptied y some low g inside still-off (x .0 .unnamed);
+      },
+      x .1,
+    ))
     p
+    (start, refl) .0
 
 -- ---- it is free
 
 module _ (s : Sizes) (p : Pool) (y : RecordNumber) (some : 1 ≤ y .0) (low-used : y .0 ≤ length (p .records .used)) (low-candidate : y .0 ≤ length (p .records .candidate)) {i : ℕ} (x : Emptied s y i p) (none-left : (f : ℕ) → f < s .k → valueAt p (linkNumber s y f) ≡ none) where
   abbrev freed : Pool
-  freed = withCandidate (withRecord (p .records .candidate) (y .0) false) (withUsed (withRecord (p .records .used) (y .0) false) p)
+  freed = becomesFree y p
 
   used-other : (a : RecordNumber) → (a .0 ≡ y .0 → ⊥) → usedAt freed a ≡ usedAt p a
+  unfolding becomesFree
   used-other a n = ofRecord-other (p .records .used) y.0 a.0 false false (λ e. n (sym e))
 
   used-stays : (a : RecordNumber) → (a .0 ≡ y .0 → ⊥) → Used p a → Used freed a
@@ -287,7 +293,7 @@ module _ (s : Sizes) (p : Pool) (y : RecordNumber) (some : 1 ≤ y .0) (low-used
       (eqb-cases a.0 y.0)
 
   pub named-freed : Named s freed
-  unfolding allLogs
+  unfolding becomesFree allLogs
   named-freed =
       record {
         registers = λ w r. used-stays (registerAt p w r) (x .unnamed .register w r) (x .named .registers w r);
@@ -305,7 +311,7 @@ module _ (s : Sizes) (p : Pool) (y : RecordNumber) (some : 1 ≤ y .0) (low-used
       }
 
   pub phased-freed : Phased s freed 6 i
-  unfolding viewValue
+  unfolding becomesFree viewValue
   phased-freed =
       record {
         snoop = x .phased .snoop;
@@ -316,7 +322,7 @@ module _ (s : Sizes) (p : Pool) (y : RecordNumber) (some : 1 ≤ y .0) (low-used
       }
     where
       grow : {a : RecordNumber} → Kept s p a → Kept s freed a
-      grow z = kept-grows p freed (λ b h. h) (λ b h. h) (λ m h. h) (λ m. refl) z
+      grow z = kept-grows p freed (λ b h. h) (λ b h. h) (λ m. refl) z
 
       since-freed : (a : RecordNumber) (v : ℕ) → makerAt p a ≡ suc v → Since s p 6 a → Since s freed 6 a
       since-freed a v e z =

@@ -1,5 +1,5 @@
 -- What only grows keeps the invariant.
---     kept-grows        the kept records stay kept where held marks, makers and changed marks grow and view values stay
+--     kept-grows        the kept records stay kept where held marks and makers grow and view values stay
 --     raised            a pool with other counts, held marks and snoop flags, and another collector's record
 --     named-raised, since-raised, phased-raised     the invariant of it, where the held marks grow
 --     free-falls        a count that falls makes no free record a candidate
@@ -16,25 +16,23 @@ use Rattle.rules.specs.declared.RecordNumber.{RecordNumber}
 use Rattle.rules.specs.declared.LinkNumber.{LinkNumber}
 use Rattle.rules.specs.declared.Collector.{Collector}
 use Rattle.rules.specs.Size.{linkNumber, boardNumber}
-use Rattle.rules.specs.Pool.{Pool, ofRecord, usedAt, heldAt, candidateAt, makerAt, valueAt, changedAt, logAt}
+use Rattle.rules.specs.Pool.{Pool, ofRecord, usedAt, heldAt, candidateAt, makerAt, valueAt, logAt}
 use Rattle.rules.specs.View.{allLogs, viewValue}
 use Rattle.rules.specs.Collect.{falls}
 use Rattle.laws.proofs.Number.{record-same}
 use Rattle.laws.proofs.Lists.{Each-map}
 use Rattle.laws.proofs.Marks.{on-some, falls-cases}
-use Rattle.promises.proofs.Invariant.{Used, Kept, by-held, by-maker, by-mark, by-board, by-view, Since, Named, Phased, snoopsIn}
+use Rattle.promises.proofs.Invariant.{Used, Kept, by-held, by-maker, by-board, by-view, Since, Named, Phased, snoopsIn}
 
 pub kept-grows : {s : Sizes} {a : RecordNumber} (p q : Pool)
     → ((b : RecordNumber) → heldAt p b ≡ true → heldAt q b ≡ true)
     → ((b : RecordNumber) → 1 ≤ makerAt p b → 1 ≤ makerAt q b)
-    → ((l : LinkNumber) → changedAt p l ≡ true → changedAt q l ≡ true)
     → ((l : LinkNumber) → viewValue q l ≡ viewValue p l)
     → Kept s p a → Kept s q a
-kept-grows p q h m c v (by-held {a = a} x) = by-held (h a x)
-kept-grows p q h m c v (by-maker {a = a} x) = by-maker (m a x)
-kept-grows {s} p q h m c v (by-mark {a = a} f some k x) = by-mark f some k (c (linkNumber s a f) x)
-kept-grows {s} p q h m c v (by-board e k x some) = by-board e k (v (boardNumber s e) ∙ x) some
-kept-grows {s} p q h m c v (by-view {a = a} f x k e some) = by-view f (kept-grows p q h m c v x) k (v (linkNumber s a f) ∙ e) some
+kept-grows p q h m v (by-held {a = a} x) = by-held (h a x)
+kept-grows p q h m v (by-maker {a = a} x) = by-maker (m a x)
+kept-grows {s} p q h m v (by-board e k x some) = by-board e k (v (boardNumber s e) ∙ x) some
+kept-grows {s} p q h m v (by-view {a = a} f x k e some) = by-view f (kept-grows p q h m v x) k (v (linkNumber s a f) ∙ e) some
 
 abbrev pub raised : Pool → List ℕ → List Bool → List Bool → Collector → Pool
 raised p count held snoop c =
@@ -77,7 +75,7 @@ module _ {s : Sizes} {p : Pool} (count : List ℕ) (held : List Bool) (snoop : L
 
     pub kept-raised : {a : RecordNumber} → Kept s p a → Kept s (raised p count held snoop c) a
     unfolding viewValue
-    kept-raised x = kept-grows p (raised p count held snoop c) grows (λ b h. h) (λ l h. h) (λ l. refl) x
+    kept-raised x = kept-grows p (raised p count held snoop c) grows (λ b h. h) (λ l. refl) x
 
     pub phased-raised : {k i : ℕ} → ((w : ℕ) → w < s .w → getD snoop w false ≡ snoopsIn k i w) → Phased s p k i → Phased s (raised p count held snoop c) k i
     phased-raised flags x =

@@ -42,11 +42,11 @@ Used p a = 1 ≤ a .0 → usedAt p a ≡ true
 abbrev pub Held : Pool → RecordNumber → Type 0
 Held p a = 1 ≤ a .0 → heldAt p a ≡ true
 
--- held, or with a maker, or with a marked link, or the view value of a board entry; and all that view values lead to from these
+-- held, or with a maker, or the view value of a board entry; and all that view values lead to from these. A changed link does not keep its record: one that waits
+-- (document 02, request 8) is not kept
 pub data Kept (s : Sizes) (p : Pool) : RecordNumber → Type 0 where
   by-held : {a : RecordNumber} → heldAt p a ≡ true → Kept s p a
   by-maker : {a : RecordNumber} → 1 ≤ makerAt p a → Kept s p a
-  by-mark : {a : RecordNumber} (f : ℕ) → 1 ≤ a .0 → f < s .k → changedAt p (linkNumber s a f) ≡ true → Kept s p a
   by-board : {b : RecordNumber} (e : ℕ) → e < s .b → viewValue p (boardNumber s e) ≡ b → 1 ≤ b .0 → Kept s p b
   by-view : {a b : RecordNumber} (f : ℕ) → Kept s p a → f < s .k → viewValue p (linkNumber s a f) ≡ b → 1 ≤ b .0 → Kept s p b
 

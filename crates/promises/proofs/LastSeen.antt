@@ -4,19 +4,21 @@
 -- what was last seen; the link has no second entry. Where phase 6 empties a link, both become none. At a close nothing is left to be cleared or counted, so the
 -- counts, which are the tallies of the view values, are those of the values last seen.
 --     seenIn          what was last seen of a link, read off the pool
+--     left-alone      a link whose value stays is not emptied
 --     quiet           an outcome that clears no mark and empties no link
+--     emptied-sees    phase 6: an unchanged link becomes none, whether its record is freed or waits
 --     event-sees      every event keeps it so
 --     run-saw, fresh-run-saw     so it is at each place of a run
 --     counts-of-seen  in phase 0 the counts are those of what was seen
 -- Assumes nothing.
-use Prim.Native.Nat.{ℕ, zero, suc, _-_, _≤_, _<_, zero-le}
+use Prim.Native.Nat.{ℕ, suc, _≤_, _<_}
 use mathlib.Core.Path.{_≡_, refl, sym, ap, _∙_, subst}
-use mathlib.Core.Logic.{inl, ⊎-elim}
-use mathlib.Core.Bool.{Bool, true, false, cond, not, _&&_, true≢false}
+use mathlib.Core.Logic.{_⊎_, inl, ⊎-elim}
+use mathlib.Core.Bool.{Bool, true, false, cond, not, _&&_}
 use mathlib.Core.List.{List, [], _∷_, _++_}
 use native.Mathlib.Omega.{arith}
-use borrow.Author.Tests.{leb-true, ltb-true, le-leb, lt-ltb}
-use lib.Dec.{leb, ltb}
+use borrow.Author.Tests.{not-true, eqb-true}
+use lib.Dec.{eqb}
 use lib.ListN.{length, getD, drop, drop-of-length-le}
 use lib.Seq.{drop-cons, getD-set-same, getD-set-other}
 use Rattle.rules.specs.declared.Sizes.{Sizes}
@@ -25,23 +27,23 @@ use Rattle.rules.specs.declared.LinkNumber.{LinkNumber}
 use Rattle.rules.specs.declared.Refusal.{Refusal}
 use Rattle.rules.specs.declared.Event.{Event}
 use Rattle.rules.specs.declared.Event.the-variants.{Make, Move, Drop, Load, Store, Look, Post, Collect}
-use Rattle.rules.specs.declared.Answer.the-variants.{Refused}
 use Rattle.rules.specs.Size.{inRange, links, linkNumber, boardNumber}
 use Rattle.rules.specs.Pool.{Entry, Pool, none, countAt, valueAt, changedAt, registersAt, registerAt, logAt, withHeld, withSnoop, withLog, withHistory, withChanged, fresh}
 use Rattle.rules.specs.View.{times, oldIn, lookUp, viewValue}
-use Rattle.rules.specs.Reply.{value, Outcome}
+use Rattle.rules.specs.Reply.{Outcome}
 use Rattle.rules.specs.Worker.{makes, moves, drops, registerTakes, loads, looks, added, linkTakes, stores, posts}
-use Rattle.rules.specs.Collect.{stepped, opens, snoops, madeBy, takes, noEntry, entryHere, clears, heldBy, scans, falls, rises, counted, counts, frees, closes, reclaims}
+use Rattle.rules.specs.Collect.{onward, stepped, opens, snoops, madeBy, takes, noEntry, entryHere, clears, heldBy, scans, falls, rises, counted, counts}
+use Rattle.rules.specs.Collect.{isUnchanged, becomesFree, empties, closes, reclaims}
 use Rattle.rules.specs.Outcome.{refused, does, outcome, after}
 use Rattle.rules.specs.Sound.{Sound, uncleared, tally}
-use Rattle.laws.proofs.Tests.{eqb-cases, and-left, and-right, bit-on}
-use Rattle.laws.proofs.Number.{link-same, link-inside, board-inside}
+use Rattle.laws.proofs.Tests.{eqb-cases, bit-on}
+use Rattle.laws.proofs.Number.{record-same, link-same, board-inside}
 use Rattle.laws.proofs.Lists.{set-cases}
 use Rattle.laws.proofs.Entries.{times-one, times-from, oldIn-absent, oldIn-there}
 use Rattle.laws.proofs.LookUp.{view-unmarked}
 use Rattle.laws.proofs.Tally.{tally-same}
-use Rattle.laws.proofs.Change.{frees-collector, frees-workers, frees-changed, stored-has, emptied-other, emptied-none}
-use Rattle.laws.proofs.Search.{Passed, reclaims-cases}
+use Rattle.laws.proofs.Change.{Unmoved, empties-unmoved, stored-has, emptied-values}
+use Rattle.laws.proofs.Search.{reclaims-cases}
 use Rattle.laws.proofs.Refusals.{decided-outcome, can-store, can-post}
 use Rattle.laws.proofs.Phases.{by-phase, moved, snoops-cases, takes-cases, clears-cases, scans-cases, counts-cases}
 use Rattle.soundness.proofs.Core.{Core, core, core-in, position-in, empty-in, unclearedIn}
@@ -51,41 +53,34 @@ use Rattle.soundness.proofs.Clear.{from-here}
 use Rattle.soundness.proofs.Known.{entry-below, link-below}
 use Rattle.soundness.proofs.Fresh.{unmarked, empty}
 use Rattle.soundness.proofs.Kept.{fresh-is-sound, event-keeps-sound}
-use Rattle.promises.specs.Seen.{cleared, isLinkOf, isLinkOfNumber, emptiedBy, seenAfter, lastSeen}
+use Rattle.promises.specs.Seen.{cleared, emptiedBy, seenAfter, lastSeen}
 
 -- what the collector last saw of a link of a pool
 abbrev pub seenIn : Pool → LinkNumber → RecordNumber
 seenIn p l = oldIn l (uncleared p) (viewValue p l)
 
--- ---- the links of a record
+-- ---- what is emptied
 
-link-of : (s : Sizes) (a : RecordNumber) (l : LinkNumber) → isLinkOf s a l ≡ true → (g : ℕ) × (g < s .k) × (l .0 ≡ linkNumber s a g .0)
-unfolding linkNumber
-link-of s a l h =
-    let low = leb-true (linkNumber s a 0 .0) l.0 (and-left (leb (linkNumber s a 0 .0) l.0) (ltb l.0 (linkNumber s a (s .k) .0)) h) in
-    let high = ltb-true l.0 (linkNumber s a (s .k) .0) (and-right (leb (linkNumber s a 0 .0) l.0) (ltb l.0 (linkNumber s a (s .k) .0)) h) in
-    (l .0 - linkNumber s a 0 .0, omega arith, omega arith)
+-- a step that leaves a link's value does not empty it
+left-alone : (p q : Pool) (l : LinkNumber) → valueAt q l ≡ valueAt p l → emptiedBy Collect p q l ≡ false
+unfolding emptiedBy
+left-alone p q l e = ap (λ a. not (eqb (valueAt p l .0) 0) && eqb (a .0) 0) e ∙ not-both (eqb (valueAt p l .0) 0)
+  where
+    not-both : (b : Bool) → (not b && b) ≡ false
+    not-both true = refl
+    not-both false = refl
 
-is-link : (s : Sizes) (a : RecordNumber) (l : LinkNumber) (g : ℕ) → g < s .k → l .0 ≡ linkNumber s a g .0 → isLinkOf s a l ≡ true
-unfolding linkNumber
-is-link s a l g k e =
-    λ j. le-leb (linkNumber s a 0 .0) l.0 (omega arith) j && lt-ltb l.0 (linkNumber s a (s .k) .0) (omega arith) j
-
-link-of-number : (s : Sizes) (i : ℕ) → 1 ≤ i → (l : LinkNumber) → isLinkOfNumber s i l ≡ isLinkOf s (record { 0 = i }) l
-link-of-number s zero h l = absurd (omega arith)
-link-of-number s (suc i) h l = refl
-
--- a refusal empties nothing
-refused-empties : (s : Sizes) (why : Refusal) (e : Event) (l : LinkNumber) → emptiedBy s e (Refused why) l ≡ false
-unfolding emptiedBy value
-refused-empties s why (Make w r) l = refl
-refused-empties s why (Move w r q) l = refl
-refused-empties s why (Drop w r) l = refl
-refused-empties s why (Load w r q f) l = refl
-refused-empties s why (Store w q f r) l = refl
-refused-empties s why (Look w r e) l = refl
-refused-empties s why (Post w e r) l = refl
-refused-empties s why Collect l = refl
+-- an event that changes nothing empties nothing
+refused-empties : (p : Pool) (e : Event) (l : LinkNumber) → emptiedBy e p p l ≡ false
+unfolding emptiedBy
+refused-empties p (Make w r) l = refl
+refused-empties p (Move w r q) l = refl
+refused-empties p (Drop w r) l = refl
+refused-empties p (Load w r q f) l = refl
+refused-empties p (Store w q f r) l = refl
+refused-empties p (Look w r e) l = refl
+refused-empties p (Post w e r) l = refl
+refused-empties p Collect l = left-alone p p l refl
 
 -- ---- every event
 
@@ -94,7 +89,7 @@ module _ {s : Sizes} {p : Pool} (sound : Sound s p) (seen : LinkNumber → Recor
   abbrev Sees : Event → Outcome → Type 0
   Sees e o =
       (l : LinkNumber) → l .0 < links s
-      → cond (cleared p (o .pool) l) (valueAt p l) (cond (emptiedBy s e (o .answer) l) none (seen l)) ≡ seenIn (o .pool) l
+      → cond (cleared p (o .pool) l) (valueAt p l) (cond (emptiedBy e p (o .pool) l) none (seen l)) ≡ seenIn (o .pool) l
 
   -- a pool in which marks stay on and what was seen stays
   record Quiet (q : Pool) : Type 0 where
@@ -108,10 +103,10 @@ module _ {s : Sizes} {p : Pool} (sound : Sound s p) (seen : LinkNumber → Recor
       by-mark true h = ap not (h refl)
       by-mark false h = refl
 
-  quiet : (e : Event) (o : Outcome) → ((l : LinkNumber) → emptiedBy s e (o .answer) l ≡ false) → Quiet (o .pool) → Sees e o
-  quiet e o answer q l h =
-      ap (λ b. cond b (valueAt p l) (cond (emptiedBy s e (o .answer) l) none (seen l))) (not-cleared (o .pool) l (q .marks l))
-      ∙ ap (λ b. cond b none (seen l)) (answer l) ∙ saw l h ∙ sym (q .same l h)
+  quiet : (e : Event) (o : Outcome) → ((l : LinkNumber) → emptiedBy e p (o .pool) l ≡ false) → Quiet (o .pool) → Sees e o
+  quiet e o none-emptied q l h =
+      ap (λ b. cond b (valueAt p l) (cond (emptiedBy e p (o .pool) l) none (seen l))) (not-cleared (o .pool) l (q .marks l))
+      ∙ ap (λ b. cond b none (seen l)) (none-emptied l) ∙ saw l h ∙ sym (q .same l h)
 
   unchanged : Quiet p
   unchanged = record { marks = λ l h. h; same = λ l h. refl }
@@ -149,22 +144,22 @@ module _ {s : Sizes} {p : Pool} (sound : Sound s p) (seen : LinkNumber → Recor
   arrives-quiet q k i marks same = record { marks = marks; same = same }
 
   opens-sees : p .collector .phase ≡ 0 → Sees Collect (opens s p)
-  unfolding emptiedBy value opens
-  opens-sees e = quiet Collect (opens s p) (λ l. refl) (arrives-quiet p 1 0 (λ l h. h) (λ l h. sym (seen-in 0 e l)))
+  unfolding opens
+  opens-sees e = quiet Collect (opens s p) (λ l. left-alone p (opens s p .pool) l refl) (arrives-quiet p 1 0 (λ l h. h) (λ l h. sym (seen-in 0 e l)))
 
   snoops-sees : p .collector .phase ≡ 1 → Sees Collect (snoops s p)
-  unfolding emptiedBy value snoops viewValue
+  unfolding onward snoops viewValue
   snoops-sees e =
       let q : Pool = withSnoop here true p in
-      quiet Collect (snoops s p) (λ l. refl)
+      quiet Collect (snoops s p) (λ l. left-alone p (snoops s p .pool) l refl)
       (snoops-cases s p Quiet e
       (λ k. arrives-quiet q 1 (suc here) (λ l h. h) (λ l h. sym (seen-in 1 e l)))
       (λ k. arrives-quiet q 2 0 (λ l h. h) (λ l h. ap (λ xs. oldIn l xs (viewValue p l)) (empty-in sound 1 e tt) ∙ sym (seen-in 1 e l))))
 
   takes-sees : p .collector .phase ≡ 2 → Sees Collect (takes s p)
-  unfolding emptiedBy value takes madeBy viewValue
+  unfolding onward takes madeBy viewValue
   takes-sees e =
-      quiet Collect (takes s p) (λ l. refl)
+      quiet Collect (takes s p) (λ l. left-alone p (takes s p .pool) l refl)
       (takes-cases s p Quiet e
       (λ k. arrives-quiet q 2 (suc here) (λ l h. h) same)
       (λ k some. arrives-quiet q 3 0 (λ l h. h) same)
@@ -177,29 +172,29 @@ module _ {s : Sizes} {p : Pool} (sound : Sound s p) (seen : LinkNumber → Recor
       same l h = sym (counts-taken (core-in sound 2 e) here (position-in sound 2 e) l h) ∙ sym (seen-in 2 e l)
 
   scans-sees : p .collector .phase ≡ 4 → Sees Collect (scans s p)
-  unfolding emptiedBy value scans viewValue
+  unfolding onward scans viewValue
   scans-sees e =
       let q : Pool = withHeld (heldBy (registersAt p here) (p .records .held)) (withSnoop here false p) in
-      quiet Collect (scans s p) (λ l. refl)
+      quiet Collect (scans s p) (λ l. left-alone p (scans s p .pool) l refl)
       (scans-cases s p Quiet e
       (λ k. arrives-quiet q 4 (suc here) (λ l h. h) (λ l h. sym (seen-in 4 e l)))
       (λ k some. arrives-quiet q 5 0 (λ l h. h) (λ l h. sym (seen-in 4 e l)))
       (λ k f. arrives-quiet q 6 0 (λ l h. h) (λ l h. sym (seen-in 4 e l))))
 
   counts-sees : p .collector .phase ≡ 5 → Sees Collect (counts s p)
-  unfolding emptiedBy value counts counted falls rises viewValue
+  unfolding onward counts counted falls rises viewValue
   counts-sees e =
       let q : Pool = counted (entryHere p) p in
-      quiet Collect (counts s p) (λ l. refl)
+      quiet Collect (counts s p) (λ l. left-alone p (counts s p .pool) l refl)
       (counts-cases s p Quiet e
       (λ k. arrives-quiet (withHistory (p .history) q) 5 (suc here) (λ l h. h) (λ l h. sym (seen-in 5 e l)))
       (λ k. arrives-quiet (withHistory [] q) 6 0 (λ l h. h) (λ l h. sym (seen-in 5 e l))))
 
   -- phase 3 sees the value of the link whose mark it clears
   clears-sees : p .collector .phase ≡ 3 → Sees Collect (clears s p)
-  unfolding emptiedBy value clears uncleared viewValue
+  unfolding uncleared viewValue
   clears-sees e =
-      clears-cases s p (λ t. (l : LinkNumber) → l .0 < links s → cond (cleared p t l) (valueAt p l) (seen l) ≡ seenIn t l) e
+      clears-cases s p (λ t. (l : LinkNumber) → l .0 < links s → cond (cleared p t l) (valueAt p l) (cond (emptiedBy Collect p t l) none (seen l)) ≡ seenIn t l) e
       (λ k. at-place 3 (suc here) refl)
       (λ k. at-place 4 0 (drop-of-length-le (p .history) k))
     where
@@ -250,9 +245,10 @@ module _ {s : Sizes} {p : Pool} (sound : Sound s p) (seen : LinkNumber → Recor
           ∙ ap (oldIn l behind) (ap (λ b. cond b (lookUp l (p .workers .log)) (valueAt p l)) (sym mark))
 
       at-place : (k i : ℕ) → behind ≡ unclearedIn k i (p .history) → (l : LinkNumber) → l .0 < links s
-          → cond (cleared p (moved k i q) l) (valueAt p l) (seen l) ≡ seenIn (moved k i q) l
+          → cond (cleared p (moved k i q) l) (valueAt p l) (cond (emptiedBy Collect p (moved k i q) l) none (seen l)) ≡ seenIn (moved k i q) l
       at-place k i f l h =
-          ⊎-elim
+          ap (λ b. cond (cleared p q l) (valueAt p l) (cond b none (seen l))) (left-alone p (moved k i q) l refl)
+          ∙ ⊎-elim
           (λ z. subst (λ (x : LinkNumber). cond (cleared p q x) (valueAt p x) (seen x) ≡ oldIn x behind (viewValue q x)) (sym (link-same l m (z .0))) here-seen)
           (λ z. there-seen l h (z .0))
           (eqb-cases l.0 m.0)
@@ -260,59 +256,61 @@ module _ {s : Sizes} {p : Pool} (sound : Sound s p) (seen : LinkNumber → Recor
 
   -- ---- phase 6
 
-  module _ (e : p .collector .phase ≡ 6) (y : RecordNumber) (some : 1 ≤ y .0) (low : y .0 ≤ s .n) (pass : Passed s p y) where
-    abbrev freed : Pool
-    freed = frees s y p
-
+  -- unchanged links become none, and of links, logs and history nothing else moves
+  module _ (e : p .collector .phase ≡ 6) (q : Pool) (unmoved : Unmoved p q) (values : (l : LinkNumber) → (valueAt q l ≡ valueAt p l) ⊎ ((isUnchanged p l ≡ true) × (valueAt q l ≡ none))) where
     -- in phase 6 what was seen is the view value
-    seen-view : (l : LinkNumber) → seenIn freed l ≡ viewValue freed l
+    seen-view : (l : LinkNumber) → seenIn q l ≡ viewValue q l
     unfolding uncleared oldIn
-    seen-view l = ap (λ (n : ℕ). oldIn l (unclearedIn n (freed .collector .position) (freed .history)) (viewValue freed l)) (ap (λ c. c .phase) (frees-collector s y p) ∙ e)
+    seen-view l = ap (λ (n : ℕ). oldIn l (unclearedIn n (q .collector .position) (q .history)) (viewValue q l)) (ap (λ c. c .phase) (unmoved .collector) ∙ e)
 
-    mark-stays : (l : LinkNumber) → changedAt freed l ≡ changedAt p l
-    mark-stays l = ap (λ marks. getD marks l.0 false) (frees-changed s y p)
+    mark-stays : (l : LinkNumber) → changedAt q l ≡ changedAt p l
+    mark-stays l = ap (λ marks. getD marks l.0 false) (unmoved .changed)
 
-    -- a link of the record is emptied
-    own-link : (g : ℕ) → g < s .k → viewValue freed (linkNumber s y g) ≡ none
-    unfolding frees
-    own-link g k =
-        view-unmarked freed (linkNumber s y g) (mark-stays (linkNumber s y g) ∙ pass .unchanged g k)
-        ∙ emptied-none s y 0 (s .k) p (λ i a b. omega (arith, link-inside s y i some low (omega arith), sound .shaped .links .value)) g zero-le (omega arith)
-
-    -- any other keeps its view value
-    other-link : (l : LinkNumber) → ((g : ℕ) → g < s .k → l .0 ≡ linkNumber s y g .0 → ⊥) → viewValue freed l ≡ viewValue p l
-    unfolding frees viewValue
-    other-link l n =
-        let value : valueAt freed l ≡ valueAt p l = emptied-other s y 0 (s .k) p l (λ g a b. n g (omega arith)) in
-        λ j. cond (mark-stays l j) (lookUp l (frees-workers s y p j .log)) (value j)
-
-    frees-sees : (l : LinkNumber) → l .0 < links s → cond (cleared p freed l) (valueAt p l) (cond (isLinkOf s y l) none (seen l)) ≡ seenIn freed l
-    unfolding oldIn
-    frees-sees l h =
-        ap (λ b. cond b (valueAt p l) (cond (isLinkOf s y l) none (seen l))) (not-cleared freed l (λ on. mark-stays l ∙ on))
-        ∙ by-link (isLinkOf s y l) refl
+    emptied-sees : (l : LinkNumber) → l .0 < links s → cond (cleared p q l) (valueAt p l) (cond (emptiedBy Collect p q l) none (seen l)) ≡ seenIn q l
+    unfolding emptiedBy oldIn viewValue
+    emptied-sees l h =
+        ap (λ b. cond b (valueAt p l) (cond (emptiedBy Collect p q l) none (seen l))) (not-cleared q l (λ on. mark-stays l ∙ on))
+        ∙ ⊎-elim stays (λ z. goes (not-true (changedAt p l) (z .0)) (z .1)) (values l)
         ∙ sym (seen-view l)
       where
-        by-link : (b : Bool) → isLinkOf s y l ≡ b → cond b none (seen l) ≡ viewValue freed l
-        by-link true f =
-            let g = link-of s y l f in
-            sym (ap (viewValue freed) (link-same l (linkNumber s y (g .0)) (g .2)) ∙ own-link (g .0) (g .1))
-        by-link false f = saw l h ∙ seen-in 6 e l ∙ sym (other-link l (λ g k z. true≢false (sym (is-link s y l g k z) ∙ f)))
+        -- a link that keeps its value keeps its view value
+        stays : valueAt q l ≡ valueAt p l → cond (emptiedBy Collect p q l) none (seen l) ≡ viewValue q l
+        stays same =
+            ap (λ b. cond b none (seen l)) (left-alone p q l same)
+            ∙ saw l h
+            ∙ seen-in 6 e l
+            ∙ sym (λ j. cond (mark-stays l j) (lookUp l (unmoved .workers j .log)) (same j))
+
+        -- one that is emptied has the view value none; if it held none before, none was seen already
+        goes : changedAt p l ≡ false → valueAt q l ≡ none → cond (emptiedBy Collect p q l) none (seen l) ≡ viewValue q l
+        goes off nothing =
+            ap (λ a. cond (not (eqb (valueAt p l .0) 0) && eqb (a .0) 0) none (seen l)) nothing
+            ∙ by-value (eqb (valueAt p l .0) 0) refl
+            ∙ sym (view-unmarked q l (mark-stays l ∙ off) ∙ nothing)
+          where
+            by-value : (b : Bool) → eqb (valueAt p l .0) 0 ≡ b → cond (not b && true) none (seen l) ≡ none
+            by-value true z = saw l h ∙ seen-in 6 e l ∙ view-unmarked p l off ∙ record-same (valueAt p l) none (eqb-true (valueAt p l .0) 0 z)
+            by-value false z = refl
 
   closes-sees : p .collector .phase ≡ 6 → Sees Collect (stepped (closes p))
-  unfolding emptiedBy value closes uncleared viewValue
-  closes-sees e = quiet Collect (stepped (closes p)) (λ l. refl) (record { marks = λ l h. h; same = λ l h. sym (seen-in 6 e l) })
+  unfolding closes uncleared viewValue
+  closes-sees e = quiet Collect (stepped (closes p)) (λ l. left-alone p (closes p) l refl) (record { marks = λ l h. h; same = λ l h. sym (seen-in 6 e l) })
 
   reclaims-sees : p .collector .phase ≡ 6 → Sees Collect (reclaims s p)
-  unfolding emptiedBy value
+  unfolding becomesFree empties
   reclaims-sees e =
-      reclaims-cases s p (Sees Collect) (λ z. closes-sees e) (λ y some low pass l h.
-      ap (λ b. cond (cleared p (frees s y p) l) (valueAt p l) (cond b none (seen l))) (link-of-number s y.0 some l) ∙ frees-sees e y some low pass l h)
+      reclaims-cases s p (Sees Collect) (λ z. closes-sees e)
+      (λ y some low pass off.
+      let unmoved = empties-unmoved s y p in
+      emptied-sees e (becomesFree y (empties s y p))
+      (record { collector = unmoved .collector; history = unmoved .history; workers = unmoved .workers; changed = unmoved .changed })
+      (emptied-values (isUnchanged p) s y 0 (s .k) p))
+      (λ y some low pass on. emptied-sees e (empties s y p) (empties-unmoved s y p) (emptied-values (isUnchanged p) s y 0 (s .k) p))
 
   -- ---- every event
 
   refused-sees : (e : Event) (why : Refusal) → Sees e (refused why p)
-  refused-sees e why = quiet e (refused why p) (refused-empties s why e) unchanged
+  refused-sees e why = quiet e (refused why p) (refused-empties p e) unchanged
 
   pub event-sees : (e : Event) → Sees e (outcome s p e)
   unfolding outcome does makes moves drops registerTakes loads looks stores posts viewValue uncleared emptiedBy

@@ -1,20 +1,22 @@
 -- What was lost when a cycle opened, loops aside, is freed in that cycle.
 -- The argument. Take the records that were lost at the opening and are not freed yet. Through the cycle they stay used, out of reach and not held, and their links
 -- hold what they held: a worker changes only what it reaches, and the scan and the snooping hold only that. Only their own links hold one of them. Their makers'
--- logs are taken in phase 2 and their marks cleared in phase 3, and no entry written since speaks of them. At the close no record passes the search. Such a
+-- logs are taken in phase 2 and their marks cleared in phase 3, and no entry written since speaks of them; so none of them waits in phase 6, and where that phase empties
+-- the links of a record that waits it is another record, whose links hold none of them. At the close no record passes the search. Such a
 -- record would pass if its count were 0, since a used record with count 0 and no maker is a candidate; so some link has it as its view value, which is its
 -- value, since no log names it: it is linked to from another of them. Going back so from link to link a record comes round, since there are only N: a
 -- closed loop keeps it. Whatever no loop keeps was therefore freed.
---     frees-remaining     freeing a record takes it out of those that remain
+--     empties-remains, frees-remains     emptying the links of a record that waits touches none of those that remain; freeing a record takes it out of them
+--     left-unchanged      in phase 6 one that remains has all changed marks off
 --     event-remaining     every event but the close keeps what is known of those that remain
 --     left-back           at the close each that remains is linked to from another
 --     closing-step        what closes a cycle is a step of phase 6 that finds nothing
 --     freed-by-the-close  so by the close all are freed that no loop keeps
 --     lost-freed          and so it is in each cycle of a run
 -- Assumes nothing.
-use Prim.Native.Nat.{ℕ, zero, suc, _≤_, _<_, zero-le}
+use Prim.Native.Nat.{ℕ, zero, suc, _≤_, _<_}
 use mathlib.Core.Path.{_≡_, refl, sym, ap, _∙_, subst}
-use mathlib.Core.Logic.{_⊎_, ⊎-elim}
+use mathlib.Core.Logic.{_⊎_, inl, inr, ⊎-elim}
 use mathlib.Core.Bool.{Bool, true, false, _||_, true≢false}
 use mathlib.Core.List.{List, [], _∷_}
 use native.Mathlib.Omega.{arith}
@@ -32,7 +34,7 @@ use Rattle.rules.specs.Pool.{Pool, none, ofRecord, fresh, countAt, makerAt, val
 use Rattle.rules.specs.View.{times, oldIn, allLogs, viewValue}
 use Rattle.rules.specs.Reply.{value, Outcome}
 use Rattle.rules.specs.Worker.{makes, moves, drops, registerTakes, loads, looks, added, linkTakes, stores, posts}
-use Rattle.rules.specs.Collect.{opens, snoops, takes, clears, scans, falls, counts, reclaimed, emptied, emptiedFrom, frees, closes, reclaims, collects}
+use Rattle.rules.specs.Collect.{opens, snoops, takes, clears, scans, falls, counts, isUnchanged, unchanged, reclaimed, emptied, becomesFree, empties, closes, reclaims, collects}
 use Rattle.rules.specs.Outcome.{answersFreed, refused, does, outcome, answers, after}
 use Rattle.rules.specs.Sound.{Each, Sound}
 use Rattle.laws.proofs.Tests.{bit-off}
@@ -42,9 +44,9 @@ use Rattle.laws.proofs.Entries.{times-foreign}
 use Rattle.laws.proofs.LookUp.{lookUp-keeps, view-marked, view-unmarked}
 use Rattle.laws.proofs.Tally.{tally-found}
 use Rattle.laws.proofs.Chosen.{chosen-low}
-use Rattle.laws.proofs.Change.{frees-collector, frees-workers, stored-has, emptied-keeps, emptied-values, emptied-other, emptied-none}
+use Rattle.laws.proofs.Change.{stored-has, emptied-keeps, emptied-values, emptied-other, empties-unmoved}
 use Rattle.laws.proofs.Marks.{on-low}
-use Rattle.laws.proofs.Search.{Passed, passes-all, reclaimed-none, reclaims-cases}
+use Rattle.laws.proofs.Search.{unchanged-all, Passed, passes-unchanged, empties-none, reclaimed-none, reclaims-cases}
 use Rattle.laws.proofs.Refusals.{decided-outcome, can-make, can-load, can-store, can-look, can-post}
 use Rattle.laws.proofs.Runs.{run-keeps}
 use Rattle.laws.proofs.Phases.{by-phase, snoops-cases, takes-cases, clears-cases, scans-cases, counts-cases}
@@ -54,16 +56,48 @@ use Rattle.promises.specs.Cycle.{Cycle, ToClose, closing, going-on, free
 use Rattle.promises.specs.Lost.{Lost, LoopKeeps}
 use Rattle.promises.proofs.Hold.{Reached, reached-fresh, reached-event, run-holds}
 use Rattle.promises.proofs.Ready.{Ready, event-ready, fresh-ready}
-use Rattle.promises.proofs.Earlier.{AtHand, link-at-hand, entry-at-hand, Shrunk}
+use Rattle.promises.proofs.Earlier.{AtHand, link-at-hand, entry-at-hand}
 use Rattle.promises.proofs.Remain.{Foreign, Left, Holder, Remains, Remaining, left-by, left-some, register-remains, makes-remains, link-takes-remains, remains-in, opens-remaining, snoops-remaining, takes-remaining, clears-remaining, scans-remaining, counts-remaining}
 use Rattle.promises.proofs.Opening.{lost-remaining}
 use Rattle.promises.proofs.Chain.{Back, loop-found}
 
--- ---- freeing
+-- ---- phase 6
 
 module _ {s : Sizes} {p₀ p : Pool} {R : RecordNumber → Type 0} (sound : Sound s p) (h : Remains s p₀ p R 6 (p .collector .position)) (y : RecordNumber) (some : 1 ≤ y .0) (low : y .0 ≤ s .n) where
-  abbrev freed : Pool
-  freed = frees s y p
+  abbrev q : Pool
+  q = empties s y p
+
+  value-then : (l : LinkNumber) → (valueAt q l ≡ valueAt p l) ⊎ (valueAt q l ≡ none)
+  unfolding empties
+  value-then l = ⊎-elim inl (λ z. inr (z .1)) (emptied-values (isUnchanged p) s y 0 (s .k) p l)
+
+  -- what is known of another record stays
+  left-emptied : (x : RecordNumber) → R x → (x .0 ≡ y .0 → ⊥) → Left s p₀ q 6 (p .collector .position) x
+  unfolding empties emptied falls
+  left-emptied x z apart =
+      let l = h .left x z in
+      left-by q 6 (p .collector .position) l
+      (record { registers = λ v r. ap (λ ws. getD (getD (ws .registers) v []) r none) (empties-unmoved s y p .workers); values = value-then })
+      (ap (λ table. ofRecord table x.0 false) (emptied-keeps (isUnchanged p) s y (λ r. r .records .used) (λ m r. refl) 0 (s .k) p))
+      (ap (λ table. ofRecord table x.0 false) (emptied-keeps (isUnchanged p) s y (λ r. r .records .held) (λ m r. refl) 0 (s .k) p) ∙ l .unheld)
+      (λ f k. emptied-other (isUnchanged p) s y 0 (s .k) p (linkNumber s x f) (λ g a b e. apart (link-apart s x y f g (left-some l) some k (omega arith) e)))
+      (λ v e. l .maker v (sym (ap (λ table. ofRecord table x.0 0) (emptied-keeps (isUnchanged p) s y (λ r. r .records .maker) (λ m r. refl) 0 (s .k) p)) ∙ e))
+      (λ w k. subst (λ ws. Each (Foreign s x) (getD (ws .log) w [])) (sym (empties-unmoved s y p .workers)) (l .logs w k))
+
+  nothing-there : (x : RecordNumber) → R x → none ≡ x → ⊥
+  nothing-there x z e = let some-x = left-some (h .left x z) in omega (arith, ap (λ (a : RecordNumber). a .0) e)
+
+  -- a link that holds one of them then held it before
+  holder-before : (l : LinkNumber) (x : RecordNumber) → R x → valueAt q l ≡ x → Holder s R l
+  holder-before l x z e = ⊎-elim (λ same. h .holders l x z (sym same ∙ e)) (λ nothing. absurd (nothing-there x z (sym nothing ∙ e))) (value-then l)
+
+  -- a record that waits is none of them: all their changed marks are off
+  empties-remains : (R y → ⊥) → Remains s p₀ q R 6 (p .collector .position)
+  empties-remains other =
+      record {
+        left = λ x z. left-emptied x z (λ e. other (subst R (record-same x y e) z));
+        holders = holder-before;
+      }
 
   abbrev Others : RecordNumber → Type 0
   Others x = R x × (eqb (y .0) (x .0) ≡ false)
@@ -71,90 +105,82 @@ module _ {s : Sizes} {p₀ p : Pool} {R : RecordNumber → Type 0} (sound : Soun
   apart-from : (x : RecordNumber) → eqb (y .0) (x .0) ≡ false → x .0 ≡ y .0 → ⊥
   apart-from x n e = eqb-false y.0 x.0 n (sym e)
 
-  freed-value : (l : LinkNumber) → (valueAt freed l ≡ valueAt p l) ⊎ (valueAt freed l ≡ none)
-  unfolding frees
-  freed-value l = emptied-values s y 0 (s .k) p l
-
-  shrunk : Shrunk p freed
-  shrunk = record { registers = λ v r. ap (λ ws. getD (getD (ws .registers) v []) r none) (frees-workers s y p); values = freed-value }
-
-  frees-remains : Remains s p₀ freed Others 6 (p .collector .position)
-  unfolding frees emptied falls
-  frees-remains =
+  frees-remains : unchanged s p y ≡ true → Remains s p₀ (becomesFree y q) Others 6 (p .collector .position)
+  unfolding becomesFree
+  frees-remains off =
       record {
         left =
             λ x z.
-            let l = h .left x (z .0) in
-            left-by freed 6 (p .collector .position) l shrunk
-            (ofRecord-other (emptiedFrom s y 0 (s .k) p .records .used) y.0 x.0 false false (λ e. apart-from x (z .1) (sym e))
-            ∙ ap (λ table. ofRecord table x.0 false) (emptied-keeps (λ q. q .records .used) (λ m q. refl) s y 0 (s .k) p))
-            (ap (λ table. ofRecord table x.0 false) (emptied-keeps (λ q. q .records .held) (λ m q. refl) s y 0 (s .k) p) ∙ l .unheld)
-            (λ f k. emptied-other s y 0 (s .k) p (linkNumber s x f) (λ g a b e. apart-from x (z .1) (link-apart s x y f g (left-some l) some k (omega arith) e)))
-            (λ v e. l .maker v (sym (ap (λ table. ofRecord table x.0 0) (emptied-keeps (λ q. q .records .maker) (λ m q. refl) s y 0 (s .k) p)) ∙ e))
-            (λ w k. subst (λ ws. Each (Foreign s x) (getD (ws .log) w [])) (sym (frees-workers s y p)) (l .logs w k));
-        holders = λ l x z e. ⊎-elim (λ same. other-holder l x z e (h .holders l x (z .0) (sym same ∙ e))) (λ nothing. absurd (nothing-there x z (sym nothing ∙ e))) (freed-value l);
+            let l = left-emptied x (z .0) (apart-from x (z .1)) in
+            left-by (becomesFree y q) 6 (p .collector .position) l
+            (record { registers = λ v r. refl; values = λ m. inl refl })
+            (ofRecord-other (q .records .used) y.0 x.0 false false (λ e. apart-from x (z .1) (sym e)))
+            (l .unheld)
+            (λ f k. refl)
+            (l .maker)
+            (l .logs);
+        holders = λ l x z e. other-holder l x z e (holder-before l x (z .0) e);
       }
     where
-      nothing-there : (x : RecordNumber) → Others x → none ≡ x → ⊥
-      nothing-there x z e = let some-x = left-some (h .left x (z .0)) in omega (arith, ap (λ (a : RecordNumber). a .0) e)
-
       -- a link that still holds something is none of the record freed
-      other-holder : (l : LinkNumber) (x : RecordNumber) → Others x → valueAt freed l ≡ x → Holder s R l → Holder s Others l
+      other-holder : (l : LinkNumber) (x : RecordNumber) → Others x → valueAt q l ≡ x → Holder s R l → Holder s Others l
       other-holder l x z e b =
           record {
             who = b .who;
             which = b .which;
-            remains = (b .remains, ne-eqb y.0 (b .who .0) (λ q. nothing-there x z (sym (emptied-here q) ∙ e)));
+            remains = (b .remains, ne-eqb y.0 (b .who .0) (λ same. nothing-there x (z .0) (sym (emptied-here same) ∙ e)));
             inside = b .inside;
             number = b .number;
           }
         where
-          emptied-here : y .0 ≡ b .who .0 → valueAt freed l ≡ none
-          emptied-here q =
-              ap (valueAt freed) (link-same l (linkNumber s (b .who) (b .which)) (b .number) ∙ ap (λ (a : RecordNumber). linkNumber s a (b .which)) (sym (record-same y (b .who) q)))
-              ∙ emptied-none s y 0 (s .k) p (λ g a c. omega (arith, link-inside s y g some low (omega arith), sound .shaped .links .value)) (b .which) zero-le (let k = b .inside in omega arith)
+          emptied-here : y .0 ≡ b .who .0 → valueAt q l ≡ none
+          emptied-here same =
+              ap (valueAt q) (link-same l (linkNumber s (b .who) (b .which)) (b .number) ∙ ap (λ (a : RecordNumber). linkNumber s a (b .which)) (sym (record-same y (b .who) same)))
+              ∙ empties-none s p y (sound .shaped .links .value) some low off (b .which) (b .inside)
 
--- ---- at the close
+-- ---- one that remains, in phase 6
 
--- each record that remains is linked to from another: no step of phase 6 takes it, and all else that it asks is so
-module _ {s : Sizes} {p₀ p : Pool} {R : RecordNumber → Type 0} (sound : Sound s p) (ready : Ready p) (e : p .collector .phase ≡ 6) (h : Remains s p₀ p R 6 (p .collector .position)) (done : reclaimed s p .0 ≡ 0) where
-  module _ (x : RecordNumber) (y : R x) where
-    abbrev l : Left s p₀ p 6 (p .collector .position) x
-    l = h .left x y
+module _ {s : Sizes} {p₀ p : Pool} {R : RecordNumber → Type 0} (sound : Sound s p) (e : p .collector .phase ≡ 6) (h : Remains s p₀ p R 6 (p .collector .position)) (x : RecordNumber) (y : R x) where
+  abbrev l : Left s p₀ p 6 (p .collector .position) x
+  l = h .left x y
 
-    some : 1 ≤ x .0
-    some = left-some l
+  some : 1 ≤ x .0
+  some = left-some l
 
-    low : x .0 ≤ s .n
-    low = let z = on-low (p .records .used) x.0 (l .used) in omega (arith, sound .shaped .records .used)
+  low : x .0 ≤ s .n
+  low = let z = on-low (p .records .used) x.0 (l .used) in omega (arith, sound .shaped .records .used)
 
-    foreign : Each (Foreign s x) (allLogs p)
-    unfolding allLogs
-    foreign = Each-all (Foreign s x) (p .workers .log) (λ w k. l .logs w (omega (arith, sound .shaped .workers .log)))
+  foreign : Each (Foreign s x) (allLogs p)
+  unfolding allLogs
+  foreign = Each-all (Foreign s x) (p .workers .log) (λ w k. l .logs w (omega (arith, sound .shaped .workers .log)))
 
-    no-maker : makerAt p x ≡ 0
-    no-maker = by-maker (makerAt p x) refl
-      where
-        by-maker : (m : ℕ) → makerAt p x ≡ m → makerAt p x ≡ 0
-        by-maker zero z = z
-        by-maker (suc v) z = absurd (let late = l .maker v z in omega (arith, sound .makers x))
+  no-maker : makerAt p x ≡ 0
+  no-maker = by-maker (makerAt p x) refl
+    where
+      by-maker : (m : ℕ) → makerAt p x ≡ m → makerAt p x ≡ 0
+      by-maker zero z = z
+      by-maker (suc v) z = absurd (let late = l .maker v z in omega (arith, sound .makers x))
 
-    unmarked : (f : ℕ) → f < s .k → changedAt p (linkNumber s x f) ≡ false
-    unfolding times
-    unmarked f k =
-        bit-off (changedAt p (linkNumber s x f))
-        (omega (
-          arith,
-          core-in sound 6 e .marks (linkNumber s x f) (link-inside s x f some low k),
-          times-foreign (linkNumber s x f) (allLogs p) (Each-map (allLogs p) (λ y z. z .link f k) foreign),
-        ))
+  -- no log has an entry for one of its links, so that their changed marks are off
+  left-unchanged : unchanged s p x ≡ true
+  unfolding times
+  left-unchanged =
+      unchanged-all s p x (λ f k.
+      bit-off (changedAt p (linkNumber s x f))
+      (omega (
+        arith,
+        core-in sound 6 e .marks (linkNumber s x f) (link-inside s x f some low k),
+        times-foreign (linkNumber s x f) (allLogs p) (Each-map (allLogs p) (λ y z. z .link f k) foreign),
+      )))
 
+  -- at the close it is linked to from another: no step of phase 6 takes it, and all else that it asks is so
+  module _ (ready : Ready p) (done : reclaimed s p .0 ≡ 0) where
     -- its count is not 0, or it would pass
     counted-for : 1 ≤ countAt p x
-    counted-for = ⊎-elim (λ z. absurd (true≢false (sym (passes-all s p x (pass z)) ∙ reclaimed-none s p done x some low))) (λ z. z) (eq-zero-or-pos (countAt p x))
+    counted-for = ⊎-elim (λ z. absurd (true≢false (sym (passes-unchanged s p x (pass z) left-unchanged) ∙ reclaimed-none s p done x some low))) (λ z. z) (eq-zero-or-pos (countAt p x))
       where
-        pass : countAt p x ≡ 0 → Passed s p x
-        pass z = record { used = l .used; candidate = ready .waiting x (l .used) z no-maker; count = z; held = l .unheld; unchanged = unmarked }
+        pass : countAt p x ≡ 0 → Passed p x
+        pass z = record { used = l .used; candidate = ready .waiting x (l .used) z no-maker; count = z; held = l .unheld }
 
     -- so a link has it as its view value, which is its value, since no log names it
     pub left-back : Back s p₀ R x
@@ -216,12 +242,21 @@ module _ {s : Sizes} {p₀ p : Pool} {R : RecordNumber → Type 0} (reached : Re
   here = p .collector .position
 
   reclaims-goes-on : p .collector .phase ≡ 6 → Goes-on Collect (reclaims s p)
-  unfolding closes answersFreed value
+  unfolding becomesFree closes answersFreed value
   reclaims-goes-on e =
-      reclaims-cases s p (Goes-on Collect) (λ z open-still. absurd (open-still refl)) (λ y some low pass open-still.
-      subst (λ c. Remains s p₀ (frees s y p) (λ z. R z × (eqb (y .0) (z .0) ≡ false)) (c .phase) (c .position)) (sym (frees-collector s y p))
-      (subst (λ (k : ℕ). Remains s p₀ (frees s y p) (λ z. R z × (eqb (y .0) (z .0) ≡ false)) k here) (sym e)
-      (frees-remains (reached .sound) (remains-in (reached .sound) h 6 e) y some low)))
+      reclaims-cases s p (Goes-on Collect) (λ z open-still. absurd (open-still refl))
+      (λ y some low pass off open-still.
+      phase-stays y (becomesFree y (empties s y p)) (λ z. R z × (eqb (y .0) (z .0) ≡ false)) refl (frees-remains (reached .sound) then y some low off))
+      (λ y some low pass on open-still.
+      phase-stays y (empties s y p) (λ z. R z × (eqb 0 (z .0) ≡ false)) refl
+      (narrowed not-freed (empties-remains (reached .sound) then y some low (λ z. true≢false (sym (left-unchanged (reached .sound) e then y z) ∙ on)))))
+    where
+      then : Remains s p₀ p R 6 here
+      then = remains-in (reached .sound) h 6 e
+
+      phase-stays : (y : RecordNumber) (q : Pool) (T : RecordNumber → Type 0) → q .collector ≡ empties s y p .collector → Remains s p₀ q T 6 here → Remaining s p₀ T q
+      phase-stays y q T same x =
+          subst (λ c. Remains s p₀ q T (c .phase) (c .position)) (sym (same ∙ empties-unmoved s y p .collector)) (subst (λ (k : ℕ). Remains s p₀ q T k here) (sym e) x)
 
   link-takes-remaining : (w : ℕ) (l : LinkNumber) (r : ℕ) → AtHand s p w l → Remaining s p₀ R (linkTakes w l r p .pool)
   link-takes-remaining w l r there =
@@ -263,7 +298,7 @@ module _ {s : Sizes} {p₀ p : Pool} {R : RecordNumber → Type 0} (reached : Re
 
 -- ---- the close
 
--- what closes a cycle is a step of phase 6 that finds nothing to free
+-- what closes a cycle is a step of phase 6 that finds nothing to take
 module _ (s : Sizes) (p : Pool) (most : p .collector .phase ≤ 6) (open-before : p .collector .phase ≡ 0 → ⊥) where
   abbrev In-0 : Pool → Type 0
   In-0 q = q .collector .phase ≡ 0 → (p .collector .phase ≡ 6) × (reclaimed s p .0 ≡ 0)
@@ -272,8 +307,12 @@ module _ (s : Sizes) (p : Pool) (most : p .collector .phase ≤ 6) (open-before 
   Closed o = In-0 (o .pool)
 
   reclaims-closed : p .collector .phase ≡ 6 → Closed (reclaims s p)
+  unfolding becomesFree
   reclaims-closed e =
-      reclaims-cases s p Closed (λ f z. (e, f)) (λ y some low pass z. absurd (open-before (sym (ap (λ c. c .phase) (frees-collector s y p)) ∙ z)))
+      reclaims-cases s p Closed (λ f z. (e, f)) (λ y some low pass off. still-open y) (λ y some low pass on. still-open y)
+    where
+      still-open : (y : RecordNumber) → empties s y p .collector .phase ≡ 0 → (p .collector .phase ≡ 6) × (reclaimed s p .0 ≡ 0)
+      still-open y z = absurd (open-before (sym (ap (λ c. c .phase) (empties-unmoved s y p .collector)) ∙ z))
 
   collects-closed : Closed (collects s p)
   unfolding opens
@@ -317,7 +356,7 @@ freed-by-the-close s r p₀ n R lost p reached ready h events (closing {e = e} c
     let end : (p .collector .phase ≡ 6) × (reclaimed s p .0 ≡ 0) = closing-step s p (reached .sound .phase) (c .before) e (c .after) in
     absurd
     (no-loop
-    (loop-found s p₀ n R lost (λ b z. left-back (reached .sound) ready (end .0) (remains-in (reached .sound) h 6 (end .0)) (end .1) b z) (record { at = a; has = y })))
+    (loop-found s p₀ n R lost (λ b z. left-back (reached .sound) (end .0) (remains-in (reached .sound) h 6 (end .0)) b z ready (end .1)) (record { at = a; has = y })))
 freed-by-the-close s r p₀ n R lost p reached ready h events (going-on {e = e} {events = later} open-still rest) a y no-loop =
     or-else (answersFreed a e (outcome s p e .answer)) (freedAmong a later (answers s (outcome s p e .pool) later)) (λ f.
     freed-by-the-close s r p₀ n (Unfreed R e (outcome s p e)) (λ b z. lost b (z .0)) (outcome s p e .pool)

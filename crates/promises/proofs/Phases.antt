@@ -322,7 +322,7 @@ module _ (s : Sizes) (p : Pool) (e : Entry) (history : List Entry) (less : (P : 
       }
     where
       grow : {a : RecordNumber} → Kept s p a → Kept s counting a
-      grow y = kept-grows p counting (λ b h. h) (λ b h. h) (λ l h. h) (λ l. refl) y
+      grow y = kept-grows p counting (λ b h. h) (λ b h. h) (λ l. refl) y
 
       since-counted : {a : RecordNumber} → Since s p 5 a → Since s counting k a
       since-counted {a} y =

@@ -1,10 +1,11 @@
 -- What a worker can reach is never freed.
--- The argument. From phase 4 on call kept the records that are held, or have a maker, or have a marked link, the view values of board entries, and all that view values lead to from these. View
--- values do not move between two clearings, other than to none when a record is freed, and the roots only grow within phases 4 to 6; so what is kept stays kept.
--- Every register of a scanned worker holds none or a kept record, and so does every marked link: the scan holds what it finds; before it the snooping holds what
--- is stored; after it a worker has only what it got through kept records, by a view value or from under a mark. In phase 6 all workers are scanned, so whatever
--- can be reached is kept, from a board entry too: it holds its view value or stands under a mark. What phase 6 takes is not: its count is 0, so no view value is it; it is not held, has no marked link, and no maker, since a record made
--- since its maker's log was taken is a candidate only if it is held. The invariant (Invariant.antt) carries this through the cycle; Run and Work prove it kept.
+-- The argument. From phase 4 on call kept the records that are held, or have a maker, the view values of board entries, and all that view values lead to from
+-- these. View values do not move between two clearings, other than to none where phase 6 empties a link of a record that is not kept, and the roots only grow within
+-- phases 4 to 6; so what is kept stays kept. Every register of a scanned worker holds none or a kept record, and so does every marked link: the scan holds what it
+-- finds; before it the snooping holds what is stored; after it a worker has only what it got through kept records, by a view value or from under a mark. In phase 6
+-- all workers are scanned, so whatever can be reached is kept, from a board entry too: it holds its view value or stands under a mark. What phase 6 takes, to free it
+-- or to empty its unchanged links, is not kept: its count is 0, so no view value is it; it is not held, and it has no maker, since a record made since its maker's log was
+-- taken is a candidate only if it is held. The invariant (Invariant.antt) carries this through the cycle; Run and Work prove it kept.
 --     marked-inside      a link whose mark is on has a number below S
 --     reached-kept       in phase 6 what a worker reaches is kept
 --     reaches-some, reached-used     what is reached is a record, and is used

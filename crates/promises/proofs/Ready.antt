@@ -17,23 +17,23 @@ use Rattle.rules.specs.declared.LinkNumber.{LinkNumber}
 use Rattle.rules.specs.declared.Event.{Event}
 use Rattle.rules.specs.declared.Event.the-variants.{Make, Move, Drop, Load, Store, Look, Post, Collect}
 use Rattle.rules.specs.Size.{linkNumber, boardNumber}
-use Rattle.rules.specs.Pool.{Pool, ofRecord, withRecord, usedAt, countAt, heldAt, candidateAt, makerAt, valueAt, logAt, registersAt, registerAt, withHeld, withSnoop, withLog, withHistory, withChanged, fresh}
+use Rattle.rules.specs.Pool.{Pool, usedAt, countAt, heldAt, candidateAt, makerAt, valueAt, logAt, registersAt, registerAt, withHeld, withSnoop, withLog, withHistory, withChanged, fresh}
 use Rattle.rules.specs.View.{viewValue}
 use Rattle.rules.specs.Worker.{chosen, makes, moves, drops, registerTakes, loads, looks, added, linkTakes, stores, posts}
-use Rattle.rules.specs.Collect.{opens, snoops, madeBy, takes, entryHere, clears, heldBy, scans, falls, rises, counted, counts, emptied, emptiedFrom, frees, closes, reclaims}
+use Rattle.rules.specs.Collect.{opens, snoops, madeBy, takes, entryHere, clears, heldBy, scans, falls, rises, counted, counts, emptied, becomesFree, empties, closes, reclaims}
 use Rattle.rules.specs.Outcome.{does, outcome}
 use Rattle.rules.specs.Sound.{Sound}
 use Rattle.laws.proofs.Tests.{eqb-cases}
 use Rattle.laws.proofs.Number.{record-same}
 use Rattle.laws.proofs.Lists.{ofRecord-same, ofRecord-other, withRecord-cases}
 use Rattle.laws.proofs.Chosen.{chosen-low}
-use Rattle.laws.proofs.Change.{stored-has, emptied-keeps, frees-collector}
+use Rattle.laws.proofs.Change.{stored-has, empties-unmoved}
 use Rattle.laws.proofs.Marks.{on-some, made-other, made-candidate, made-candidate-own, falls-candidate, falls-own, closes-held, closes-stays}
-use Rattle.laws.proofs.Search.{Passed, reclaims-cases}
+use Rattle.laws.proofs.Search.{reclaims-cases}
 use Rattle.laws.proofs.Refusals.{decided, can-make, can-store, can-post}
 use Rattle.laws.proofs.Phases.{by-phase, moved, snoops-cases, takes-cases, clears-cases, scans-cases, counts-cases}
 use Rattle.soundness.proofs.Core.{core-in}
-use Rattle.soundness.proofs.Reclaim.{core-emptied-has}
+use Rattle.soundness.proofs.Reclaim.{core-emptied-has, core-empties}
 use Rattle.soundness.proofs.Fresh.{ofRecord-all}
 use Rattle.soundness.proofs.Known.{entry-below}
 use Rattle.promises.proofs.Invariant.{snoopsIn}
@@ -161,46 +161,50 @@ module _ {s : Sizes} {p : Pool} (sound : Sound s p) (ready : Ready p) where
         unheld = λ e a. closes-held p a;
       }
 
-  -- ---- freeing
+  -- ---- phase 6
 
-  module _ (e : p .collector .phase ≡ 6) (y : RecordNumber) (some : 1 ≤ y .0) (low : y .0 ≤ s .n) (pass : Passed s p y) where
-    emptied-waits : Waiting (emptiedFrom s y 0 (s .k) p)
-    unfolding emptied falls Waiting
+  module _ (e : p .collector .phase ≡ 6) (y : RecordNumber) (some : 1 ≤ y .0) (low : y .0 ≤ s .n) where
+    abbrev q : Pool
+    q = empties s y p
+
+    emptied-waits : Waiting q
+    unfolding empties emptied falls Waiting
     emptied-waits =
-        core-emptied-has Waiting s (λ l q c h. waiting-falls (valueAt q l) q (omega (arith, c .values l, c .shaped .records .candidate)) h) y (s .k) p
-        (core-in sound 6 e) some low (omega arith) pass waits .1
+        core-emptied-has s y p (core-in sound 6 e) some low Waiting (λ l q c h. waiting-falls (valueAt q l) q (omega (arith, c .values l, c .shaped .records .candidate)) h)
+        (s .k)
+        (omega arith)
+        waits .1
 
-    frees-ready : Ready (frees s y p)
-    unfolding frees emptied falls Waiting
-    frees-ready =
-        record {
-          waiting = λ a used zero-count none. freed-waits a used zero-count none;
-          unheld = λ z. absurd (omega (arith, e, ap (λ c. c .phase) (frees-collector s y p)));
-        }
+    still-6 : q .collector .phase ≡ 0 → ⊥
+    still-6 z = omega (arith, e, ap (λ c. c .phase) (empties-unmoved s y p .collector))
+
+    empties-ready : Ready q
+    unfolding Waiting
+    empties-ready = record { waiting = emptied-waits; unheld = λ z. absurd (still-6 z) }
+
+    frees-ready : Ready (becomesFree y q)
+    unfolding becomesFree Waiting
+    frees-ready = record { waiting = freed-waits; unheld = λ z. absurd (still-6 z) }
       where
-        q : Pool
-        q = emptiedFrom s y 0 (s .k) p
-
         after : (a : RecordNumber) → usedAt q a ≡ true → countAt q a ≡ 0 → makerAt q a ≡ 0 → candidateAt q a ≡ true
         after = emptied-waits
 
         -- the record freed is not used
-        not-used : usedAt (frees s y p) y ≡ false
-        not-used =
-            ap (λ table. ofRecord (withRecord table (y .0) false) (y .0) false) (emptied-keeps (λ r. r .records .used) (λ l r. refl) s y 0 (s .k) p)
-            ∙ ofRecord-same (p .records .used) y.0 false false some (omega (arith, sound .shaped .records .used))
+        not-used : usedAt (becomesFree y q) y ≡ false
+        not-used = ofRecord-same (q .records .used) y.0 false false some (omega (arith, core-empties s y p (core-in sound 6 e) some low .shaped .records .used))
 
-        freed-waits : (a : RecordNumber) → usedAt (frees s y p) a ≡ true → countAt (frees s y p) a ≡ 0 → makerAt (frees s y p) a ≡ 0 → candidateAt (frees s y p) a ≡ true
+        freed-waits : (a : RecordNumber) → usedAt (becomesFree y q) a ≡ true → countAt q a ≡ 0 → makerAt q a ≡ 0 → candidateAt (becomesFree y q) a ≡ true
         freed-waits a used zero-count none =
             ⊎-elim
-            (λ z. absurd (true≢false (sym used ∙ ap (λ (b : RecordNumber). usedAt (frees s y p) b) (record-same a y (z .0)) ∙ not-used)))
+            (λ z. absurd (true≢false (sym used ∙ ap (λ (b : RecordNumber). usedAt (becomesFree y q) b) (record-same a y (z .0)) ∙ not-used)))
             (λ z.
             ofRecord-other (q .records .candidate) y.0 a.0 false false (λ t. z .0 (sym t))
             ∙ after a (sym (ofRecord-other (q .records .used) y.0 a.0 false false (λ t. z .0 (sym t))) ∙ used) zero-count none)
             (eqb-cases a.0 y.0)
 
   reclaims-ready : p .collector .phase ≡ 6 → Ready (reclaims s p .pool)
-  reclaims-ready e = reclaims-cases s p (λ o. Ready (o .pool)) (λ z. closes-ready) (frees-ready e)
+  reclaims-ready e =
+      reclaims-cases s p (λ o. Ready (o .pool)) (λ z. closes-ready) (λ y some low pass off. frees-ready e y some low) (λ y some low pass on. empties-ready e y some low)
 
   -- ---- every event
 

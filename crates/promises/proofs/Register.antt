@@ -55,7 +55,7 @@ module _ {s : Sizes} {p : Pool} (w r : ℕ) (a : RecordNumber) where
 
   kept-register : {b : RecordNumber} → Kept s p b → Kept s (withRegister w r a p) b
   unfolding viewValue
-  kept-register x = kept-grows p (withRegister w r a p) (λ b h. h) (λ b h. h) (λ l h. h) (λ l. refl) x
+  kept-register x = kept-grows p (withRegister w r a p) (λ b h. h) (λ b h. h) (λ l. refl) x
 
   since-register : {k : ℕ} {b : RecordNumber} → Since s p k b → Since s (withRegister w r a p) k b
   unfolding allLogs viewValue
@@ -152,7 +152,7 @@ module _ (s : Sizes) (p : Pool) (w : ℕ) (a : RecordNumber) (some : 1 ≤ a .0)
 
   kept-made : {b : RecordNumber} → Kept s p b → Kept s made b
   unfolding viewValue
-  kept-made x = kept-grows p made (λ b h. h) maker-grows (λ l h. h) (λ l. refl) x
+  kept-made x = kept-grows p made (λ b h. h) maker-grows (λ l. refl) x
 
   pub phased-made : {k i : ℕ} → Named s p → Phased s p k i → Phased s made k i
   phased-made {k} {i} n x =

@@ -93,7 +93,7 @@ module _ (s : Sizes) {p : Pool} {ls : Links} {logs : List (List Entry)} (l : Lin
       }
 
   kept-relinked : {b : RecordNumber} → Kept s p b → Kept s q b
-  kept-relinked y = kept-grows p q (λ b h. h) (λ b h. h) changed-grows (c .view) y
+  kept-relinked y = kept-grows p q (λ b h. h) (λ b h. h) (c .view) y
 
   since-relinked : {k : ℕ} {b : RecordNumber} → (k ≤ 3 → Held p x) → 1 ≤ b .0 → Since s p k b → Since s q k b
   unfolding allLogs

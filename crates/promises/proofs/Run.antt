@@ -20,17 +20,16 @@ use Rattle.rules.specs.declared.LinkNumber.{LinkNumber}
 use Rattle.rules.specs.declared.Collector.{Collector}
 use Rattle.rules.specs.Size.{links, linkNumber}
 use Rattle.rules.specs.Pool.{Entry, Pool, none, valueAt, snoopsAt, registersAt, logAt, withHeld, withSnoop, withLog, withHistory, withChanged}
-use Rattle.rules.specs.Collect.{opens, snoops, madeBy, takes, noEntry, entryHere, clears, heldBy, scans, falls, rises, counted, counts, emptied, emptiedFrom, frees, closes, reclaims, collects}
+use Rattle.rules.specs.Collect.{opens, snoops, madeBy, takes, noEntry, entryHere, clears, heldBy, scans, falls, rises, counted, counts, unchanged, becomesFree, empties, closes, reclaims, collects}
 use Rattle.rules.specs.Sound.{Each, Sound}
-use Rattle.laws.proofs.Number.{link-inside}
 use Rattle.laws.proofs.Lists.{Each-at}
-use Rattle.laws.proofs.Change.{frees-collector, emptied-none}
-use Rattle.laws.proofs.Search.{Passed, reclaims-cases}
+use Rattle.laws.proofs.Change.{empties-unmoved}
+use Rattle.laws.proofs.Search.{Passed, empties-none, reclaims-cases}
 use Rattle.laws.proofs.Phases.{by-phase, moved, snoops-cases, takes-cases, clears-cases, scans-cases, counts-cases}
 use Rattle.soundness.proofs.Core.{Core, core-in, position-in, empty-in}
 use Rattle.soundness.proofs.Take.{core-taken, core-made}
 use Rattle.soundness.proofs.Clear.{core-cleared}
-use Rattle.soundness.proofs.Reclaim.{core-emptied-from}
+use Rattle.soundness.proofs.Reclaim.{core-empties}
 use Rattle.soundness.proofs.Known.{entry-below}
 use Rattle.promises.proofs.Invariant.{Used, Named, Phased}
 use Rattle.promises.proofs.Grow.{named-raised, phased-raised}
@@ -195,37 +194,45 @@ module _ {s : Sizes} {p : Pool} (sound : Sound s p) (state : State s p) where
     core-6 : Core s p [] []
     core-6 = core-in sound 6 e
 
-    pub taken-unnamed : (y : RecordNumber) → 1 ≤ y .0 → y .0 ≤ s .n → Passed s p y → Unnamed s p y
+    pub taken-unnamed : (y : RecordNumber) → 1 ≤ y .0 → y .0 ≤ s .n → Passed p y → Unnamed s p y
     taken-unnamed y some low pass = passed-unnamed core-6 (phased-in 6 e) (empty-in sound 6 e tt) y some low pass
 
-    frees-kept : (y : RecordNumber) → 1 ≤ y .0 → y .0 ≤ s .n → Passed s p y → State s (frees s y p)
-    unfolding frees emptied falls
-    frees-kept y some low pass =
-        record {
-          named = named-freed s q y some low-used low-candidate all none-left;
-          phased = subst (λ (c : Collector). Phased s (frees s y p) (c .phase) (c .position)) (sym (frees-collector s y p)) (subst (λ (k : ℕ). Phased s (frees s y p) k here) (sym e) (phased-freed s q y some low-used low-candidate all none-left));
-        }
-      where
-        q : Pool
-        q = emptiedFrom s y 0 (s .k) p
+    module _ (y : RecordNumber) (some : 1 ≤ y .0) (low : y .0 ≤ s .n) (pass : Passed p y) where
+      all : Emptied s y here (empties s y p)
+      all =
+          emptied-through s y here p some low
+          (record { named = state .named; phased = phased-in 6 e; unnamed = taken-unnamed y some low pass })
 
-        all : Emptied s y here q
-        all =
-            emptied-through s y here p some low
-            (record { named = state .named; phased = phased-in 6 e; unnamed = taken-unnamed y some low pass })
+      -- phase 6 stays
+      phase-stays : (q : Pool) → q .collector ≡ empties s y p .collector → Phased s q 6 here → Phased s q (q .collector .phase) (q .collector .position)
+      phase-stays q same x =
+          subst (λ (c : Collector). Phased s q (c .phase) (c .position)) (sym (same ∙ empties-unmoved s y p .collector)) (subst (λ (k : ℕ). Phased s q k here) (sym e) x)
 
-        none-left : (f : ℕ) → f < s .k → valueAt q (linkNumber s y f) ≡ none
-        none-left f k =
-            emptied-none s y 0 (s .k) p (λ g a b. omega (arith, link-inside s y g some low (omega arith), sound .shaped .links .value)) f zero-le (omega arith)
+      empties-kept : State s (empties s y p)
+      empties-kept = record { named = all .named; phased = phase-stays (empties s y p) refl (all .phased) }
 
-        after : Core s q [] []
-        after = core-emptied-from s y (s .k) p core-6 some low (omega arith) pass
+      frees-kept : unchanged s p y ≡ true → State s (becomesFree y (empties s y p))
+      unfolding becomesFree
+      frees-kept off =
+          record {
+            named = named-freed s q y some low-used low-candidate all (none-left off);
+            phased = phase-stays (becomesFree y q) refl (phased-freed s q y some low-used low-candidate all (none-left off));
+          }
+        where
+          q : Pool
+          q = empties s y p
 
-        low-used : y .0 ≤ length (q .records .used)
-        low-used = omega (arith, after .shaped .records .used)
+          none-left : unchanged s p y ≡ true → (f : ℕ) → f < s .k → valueAt q (linkNumber s y f) ≡ none
+          none-left off = empties-none s p y (sound .shaped .links .value) some low off
 
-        low-candidate : y .0 ≤ length (q .records .candidate)
-        low-candidate = omega (arith, after .shaped .records .candidate)
+          after : Core s q [] []
+          after = core-empties s y p core-6 some low
+
+          low-used : y .0 ≤ length (q .records .used)
+          low-used = omega (arith, after .shaped .records .used)
+
+          low-candidate : y .0 ≤ length (q .records .candidate)
+          low-candidate = omega (arith, after .shaped .records .candidate)
 
     closes-kept : State s (closes p)
     unfolding closes
@@ -236,7 +243,7 @@ module _ {s : Sizes} {p : Pool} (sound : Sound s p) (state : State s p) where
         }
 
     reclaims-kept : State s (reclaims s p .pool)
-    reclaims-kept = reclaims-cases s p (λ o. State s (o .pool)) (λ z. closes-kept) frees-kept
+    reclaims-kept = reclaims-cases s p (λ o. State s (o .pool)) (λ z. closes-kept) frees-kept (λ y some low pass on. empties-kept y some low pass)
 
   pub collects-kept : State s (collects s p .pool)
   collects-kept =

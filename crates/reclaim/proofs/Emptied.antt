@@ -1,13 +1,13 @@
 -- The links of a record, emptied in tables.
 --     emptiedTables, emptied-written     one link is emptied
---     emptied-first, emptied-next        no link is emptied yet; one link more is
---     Fit, value-fits     the value of the next link is within the tables, and its count may fall
+--     emptied-first, emptied-next, emptied-over     no link is emptied yet; one link more is, or it is passed over
+--     Fit, value-fits     the value of the next unchanged link is within the tables, and its count may fall
 --     freedTables, freed-next     the record is freed, once its links are emptied
 -- Assumes nothing.
 use Prim.Native.Nat.{ℕ, zero, suc, _+_, _≤_, _<_}
 use mathlib.Core.Path.{_≡_, refl, sym, ap, _∙_, subst}
 use mathlib.Core.Logic.{⊎-elim}
-use mathlib.Core.Bool.{false}
+use mathlib.Core.Bool.{Bool, true, false, cond}
 use native.Mathlib.Omega.{arith}
 use native.Mathlib.Numerals.{add-one}
 use lib.ListN.{getD, set, List·getD-map}
@@ -16,17 +16,18 @@ use Rattle.rules.specs.declared.RecordNumber.{RecordNumber}
 use Rattle.rules.specs.declared.LinkNumber.{LinkNumber}
 use Rattle.rules.specs.declared.Collector.{Collector}
 use Rattle.rules.specs.Size.{linkNumber}
-use Rattle.rules.specs.Pool.{Pool, none, ofRecord, withRecord, valueAt}
+use Rattle.rules.specs.Pool.{Pool, none, ofRecord, withRecord, valueAt, changedAt}
 use Rattle.rules.specs.View.{bit}
-use Rattle.rules.specs.Collect.{falls, emptied, emptiedFrom, frees}
+use Rattle.rules.specs.Collect.{falls, isUnchanged, unchanged, emptied, emptiedFrom, becomesFree, frees, empties}
 use Rattle.tables.specs.Tables.{Tables, putUsed, putCounts, putCandidates, putValues}
 use Rattle.tables.specs.Lie.{poolOf, tablesOf}
 use Rattle.tables.specs.Counted.{fewer, fallen}
 use Rattle.tables.proofs.Written.{value-written, falls-written}
 use Rattle.laws.proofs.Lists.{map-withRecord}
 use Rattle.laws.proofs.Change.{emptied-values}
+use Rattle.laws.proofs.Search.{frees-is}
 use Rattle.soundness.proofs.Known.{value-has-count}
-use Rattle.reclaim.specs.Lent.{Passes}
+use Rattle.reclaim.specs.Lent.{InPool}
 
 -- ---- one link
 
@@ -50,28 +51,41 @@ emptied-written s p l =
 
 -- ---- one link more
 
--- the definition begins at the first link; this is the last one
-emptied-last : (s : Sizes) (a : RecordNumber) (f left : ℕ) (p : Pool) → emptiedFrom s a f (suc left) p ≡ emptied (linkNumber s a (f + left)) (emptiedFrom s a f left p)
-unfolding emptiedFrom
-emptied-last s a f zero p = ap (λ (g : ℕ). emptied (linkNumber s a g) p) (let e : f ≡ f + 0 = omega arith in e)
-emptied-last s a f (suc left) p =
-    let q : Pool = emptied (linkNumber s a f) p in
-    emptied-last s a (suc f) left q
-    ∙ ap (λ (g : ℕ). emptied (linkNumber s a g) (emptiedFrom s a (suc f) left q)) (let e : suc f + left ≡ f + suc left = omega arith in e)
+module _ (which : LinkNumber → Bool) (s : Sizes) (a : RecordNumber) where
+  -- the definition begins at the first link; this is the last one
+  emptied-last : (f left : ℕ) (p : Pool) → let l : LinkNumber = linkNumber s a (f + left) in
+      emptiedFrom which s a f (suc left) p ≡ cond (which l) (emptied l (emptiedFrom which s a f left p)) (emptiedFrom which s a f left p)
+  unfolding emptiedFrom
+  emptied-last f zero p = ap (λ (g : ℕ). cond (which (linkNumber s a g)) (emptied (linkNumber s a g) p) p) (let e : f ≡ f + 0 = omega arith in e)
+  emptied-last f (suc left) p =
+      let q : Pool = cond (which (linkNumber s a f)) (emptied (linkNumber s a f) p) p in
+      emptied-last (suc f) left q
+      ∙ ap (λ (g : ℕ). cond (which (linkNumber s a g)) (emptied (linkNumber s a g) (emptiedFrom which s a (suc f) left q)) (emptiedFrom which s a (suc f) left q))
+      (let e : suc f + left ≡ f + suc left = omega arith in e)
 
--- the tables after f links, and after one more
-pub emptied-first : (s : Sizes) (a : RecordNumber) (p : Pool) → tablesOf s (emptiedFrom s a 0 0 p) ≡ tablesOf s p
-unfolding emptiedFrom
-emptied-first s a p = refl
+  -- the tables after f links, and after one more
+  pub emptied-first : (p : Pool) → tablesOf s (emptiedFrom which s a 0 0 p) ≡ tablesOf s p
+  unfolding emptiedFrom
+  emptied-first p = refl
 
-pub emptied-next : (s : Sizes) (a : RecordNumber) (f : ℕ) (p : Pool) (u : Tables) → tablesOf s (emptiedFrom s a 0 f p) ≡ u
-    → tablesOf s (emptiedFrom s a 0 (f + 1) p) ≡ emptiedTables (linkNumber s a f .0) u
-emptied-next s a f p u e =
-    let q : Pool = emptiedFrom s a 0 f p in
-    ap (λ (n : ℕ). tablesOf s (emptiedFrom s a 0 n p)) (add-one f)
-    ∙ ap (tablesOf s) (emptied-last s a 0 f p ∙ ap (λ (g : ℕ). emptied (linkNumber s a g) q) (let z : 0 + f ≡ f = omega arith in z))
-    ∙ emptied-written s q (linkNumber s a f)
-    ∙ ap (emptiedTables (linkNumber s a f .0)) e
+  one-more : (f : ℕ) (p : Pool) (b : Bool) → which (linkNumber s a f) ≡ b → let q : Pool = emptiedFrom which s a 0 f p in
+      tablesOf s (emptiedFrom which s a 0 (f + 1) p) ≡ tablesOf s (cond b (emptied (linkNumber s a f) q) q)
+  one-more f p b e =
+      let q : Pool = emptiedFrom which s a 0 f p in
+      ap (λ (n : ℕ). tablesOf s (emptiedFrom which s a 0 n p)) (add-one f)
+      ∙ ap (tablesOf s)
+      (emptied-last 0 f p
+      ∙ ap (λ (g : ℕ). cond (which (linkNumber s a g)) (emptied (linkNumber s a g) q) q) (let z : 0 + f ≡ f = omega arith in z)
+      ∙ ap (λ x. cond x (emptied (linkNumber s a f) q) q) e)
+
+  pub emptied-next : (f : ℕ) (p : Pool) (u : Tables) → which (linkNumber s a f) ≡ true → tablesOf s (emptiedFrom which s a 0 f p) ≡ u
+      → tablesOf s (emptiedFrom which s a 0 (f + 1) p) ≡ emptiedTables (linkNumber s a f .0) u
+  emptied-next f p u on e =
+      one-more f p true on ∙ emptied-written s (emptiedFrom which s a 0 f p) (linkNumber s a f) ∙ ap (emptiedTables (linkNumber s a f .0)) e
+
+  pub emptied-over : (f : ℕ) (p : Pool) (u : Tables) → which (linkNumber s a f) ≡ false → tablesOf s (emptiedFrom which s a 0 f p) ≡ u
+      → tablesOf s (emptiedFrom which s a 0 (f + 1) p) ≡ u
+  emptied-over f p u off e = one-more f p false off ∙ e
 
 -- ---- the value of the next link
 
@@ -79,28 +93,30 @@ emptied-next s a f p u e =
 abbrev pub Fit : Sizes → ℕ → Tables → Type 0
 Fit s l t = let v : ℕ = getD (t .values) l 0 in (v ≤ s .n) × ((1 ≤ v) → 1 ≤ ofRecord (t .counts) v 0)
 
-pub value-fits : {s : Sizes} {t : Tables} {c : Collector} {a : RecordNumber} → Passes s t c a → (f : ℕ) → f < s .k → (u : Tables)
-    → tablesOf s (emptiedFrom s a 0 f (poolOf s t c)) ≡ u → Fit s (linkNumber s a f .0) u
+pub value-fits : {s : Sizes} {t : Tables} {c : Collector} {a : RecordNumber} → InPool s t c a → (f : ℕ) → f < s .k → changedAt (poolOf s t c) (linkNumber s a f) ≡ false
+    → (u : Tables) → tablesOf s (emptiedFrom (isUnchanged (poolOf s t c)) s a 0 f (poolOf s t c)) ≡ u → Fit s (linkNumber s a f .0) u
 unfolding tablesOf poolOf
-value-fits {s} {t} {c} {a} pass f k u e =
+value-fits {s} {t} {c} {a} inside f k off u e =
     let p : Pool = poolOf s t c in
-    let q : Pool = emptiedFrom s a 0 f p in
+    let q : Pool = emptiedFrom (isUnchanged p) s a 0 f p in
     let l : LinkNumber = linkNumber s a f in
-    let sound = pass .known .tables .sound in
+    let sound = inside .known .tables .sound in
     let low : valueAt q l .0 ≤ s .n =
-    ⊎-elim (λ same. omega (arith, ap (λ x. x .0) same, sound .values l)) (λ empty. omega (arith, ap (λ x. x .0) empty)) (emptied-values s a 0 f p l) in
+    ⊎-elim (λ same. omega (arith, ap (λ x. x .0) same, sound .values l)) (λ z. omega (arith, ap (λ x. x .0) (z .1))) (emptied-values (isUnchanged p) s a 0 f p l) in
     subst (Fit s (l .0)) e
     (subst (λ (v : ℕ). (v ≤ s .n) × ((1 ≤ v) → 1 ≤ ofRecord (q .records .count) v 0)) (value-read s q l)
-    (low, value-has-count sound a f (pass .phase) (pass .some) (pass .low) (pass .taken) k))
+    (low, value-has-count sound a f (inside .phase) (inside .some) (inside .low) k off))
 
 -- ---- freeing
 
 abbrev pub freedTables : ℕ → Tables → Tables
 freedTables a t = putUsed (withRecord (t .used) a 0) (putCandidates (withRecord (t .candidates) a 0) t)
 
-pub freed-next : (s : Sizes) (a : RecordNumber) (p : Pool) (u : Tables) → tablesOf s (emptiedFrom s a 0 (s .k) p) ≡ u → tablesOf s (frees s a p) ≡ freedTables (a .0) u
-unfolding frees tablesOf
-freed-next s a p u e =
-    let q : Pool = emptiedFrom s a 0 (s .k) p in
-    (λ j. putUsed (map-withRecord bit (q .records .used) (a .0) false j) (putCandidates (map-withRecord bit (q .records .candidate) (a .0) false j) (tablesOf s q)))
+pub freed-next : (s : Sizes) (a : RecordNumber) (p : Pool) (u : Tables) → unchanged s p a ≡ true → tablesOf s (empties s a p) ≡ u
+    → tablesOf s (frees s a p) ≡ freedTables (a .0) u
+unfolding becomesFree tablesOf
+freed-next s a p u off e =
+    let q : Pool = empties s a p in
+    ap (tablesOf s) (frees-is s p a off)
+    ∙ (λ j. putUsed (map-withRecord bit (q .records .used) (a .0) false j) (putCandidates (map-withRecord bit (q .records .candidate) (a .0) false j) (tablesOf s q)))
     ∙ ap (freedTables (a .0)) e

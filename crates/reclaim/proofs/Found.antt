@@ -1,29 +1,30 @@
 -- What the search of phase 6 finds, from what its tests say of each record.
 --     search-finds, search-finds-none     the record that passes where none below it does; none where none does
+--     links-unchanged, link-changed       a record's changed marks, by the table
+--     link-holds, links-hold              its unchanged links that hold a record, by the tables
 --     Fails                               why a record does not pass, by the tables that the search reads
---     record-fails, record-passes         so it does not; and where it does
+--     record-fails, record-passes, record-sits     so it does not; and where it does
 -- Assumes nothing.
 use Prim.Native.Nat.{ℕ, _-_, _≤_, _<_}
-use mathlib.Core.Path.{_≡_, refl, sym, ap, _∙_}
+use mathlib.Core.Path.{_≡_, refl, sym, _∙_}
 use mathlib.Core.Logic.{_⊎_, inl, inr, ⊎-elim}
 use mathlib.Core.Bool.{Bool, true, false, not, _&&_, true≢false}
 use mathlib.Core.List.{List}
 use native.Mathlib.Nat.{eq-or-lt-of-le}
-use borrow.Author.Tests.{eq-eqb, eqb-true, not-true}
 use lib.Dec.{eqb}
 use lib.ListN.{getD}
 use Rattle.rules.specs.declared.Sizes.{Sizes}
 use Rattle.rules.specs.declared.RecordNumber.{RecordNumber}
 use Rattle.rules.specs.declared.Collector.{Collector}
 use Rattle.rules.specs.Size.{linkNumber}
-use Rattle.rules.specs.Pool.{Pool, none, usedAt, countAt, heldAt, candidateAt}
-use Rattle.rules.specs.Collect.{passes, reclaimed}
-use Rattle.tables.specs.Tables.{Tables}
+use Rattle.rules.specs.Pool.{Pool, none}
+use Rattle.rules.specs.Collect.{unchanged, holdsUnchanged, hasChild, passes, reclaimed}
+use Rattle.tables.specs.Tables.{Tables, putValues, putChanged}
 use Rattle.tables.specs.Lie.{isOn, poolOf}
-use Rattle.tables.proofs.Stand.{count-stands, used-stands, held-stands, candidate-stands, changed-stands}
-use Rattle.laws.proofs.Tests.{below-or-not, and-left, and-right, and-both}
+use Rattle.tables.proofs.Stand.{count-stands, used-stands, held-stands, candidate-stands, value-stands, changed-stands}
+use Rattle.laws.proofs.Tests.{below-or-not}
 use Rattle.laws.proofs.Number.{record-same}
-use Rattle.laws.proofs.Search.{Passed, passed, passes-all, reclaimed-passes, reclaimed-lowest, reclaimed-none}
+use Rattle.laws.proofs.Search.{unchanged-each, unchanged-all, child-here, child-none, Passed, asked, asked-passed, passed-asked, passed, passes-unchanged, passes-child, passes-neither, reclaimed-passes, reclaimed-lowest, reclaimed-none}
 use Rattle.reclaim.specs.Raw.{waits}
 
 -- ---- what is found
@@ -53,53 +54,71 @@ module _ (s : Sizes) (p : Pool) where
 
 -- ---- one record
 
--- it does not wait, or the changed mark of one of its links is on
-abbrev pub Fails : Sizes → (used counts held candidates changed : List ℕ) → RecordNumber → Type 0
-Fails s used counts held candidates changed a =
-    (waits used counts held candidates (a .0 - 1) ≡ false) ⊎ ((f : ℕ) × (f < s .k) × (isOn (getD changed (linkNumber s a f .0) 0) ≡ true))
+-- it does not wait, or the changed mark of one of its links is on and no unchanged one holds a record
+abbrev pub Fails : Sizes → (used counts held candidates values changed : List ℕ) → RecordNumber → Type 0
+Fails s used counts held candidates values changed a =
+    (waits used counts held candidates (a .0 - 1) ≡ false)
+    ⊎ ((f : ℕ) × (f < s .k) × (isOn (getD changed (linkNumber s a f .0) 0) ≡ true)
+    × ((t : Tables) (c : Collector) → hasChild s (poolOf s (putValues values (putChanged changed t)) c) a ≡ false))
 
-module _ (s : Sizes) (t : Tables) (c : Collector) (a : RecordNumber) (some : 1 ≤ a .0) where
+module _ (s : Sizes) (t : Tables) (c : Collector) (a : RecordNumber) where
   abbrev p : Pool
   p = poolOf s t c
 
-  abbrev waiting : Bool
-  waiting = waits (t .used) (t .counts) (t .held) (t .candidates) (a .0 - 1)
+  -- the changed mark of link f, by the table
+  abbrev mark : ℕ → Bool
+  mark f = isOn (getD (t .changed) (linkNumber s a f .0) 0)
 
-  waits-stands : waiting ≡ (usedAt p a && candidateAt p a && eqb (countAt p a) 0 && not (heldAt p a))
-  unfolding waits
-  waits-stands =
-      sym
-      (λ j.
-      used-stands s t c a some j && candidate-stands s t c a some j && eqb (count-stands s t c a some j) 0 && not (held-stands s t c a some j))
+  pub links-unchanged : ((f : ℕ) → f < s .k → mark f ≡ false) → unchanged s p a ≡ true
+  links-unchanged off = unchanged-all s p a (λ f k. changed-stands s t c (linkNumber s a f) ∙ off f k)
 
-  pub record-fails : Fails s (t .used) (t .counts) (t .held) (t .candidates) (t .changed) a → passes s p a ≡ false
-  record-fails = by-test (passes s p a) refl
+  pub link-changed : (f : ℕ) → f < s .k → mark f ≡ true → unchanged s p a ≡ false
+  link-changed f k on = by-test (unchanged s p a) refl
     where
-      by-test : (b : Bool) → passes s p a ≡ b → Fails s (t .used) (t .counts) (t .held) (t .candidates) (t .changed) a → b ≡ false
-      by-test false e why = refl
-      by-test true e (inl idle) =
-          let pass : Passed s p a = passed s p a e in
-          absurd
-          (not-both
-          (waits-stands
-          ∙ and-both _ _ (and-both _ _ (and-both _ _ (pass .used) (pass .candidate)) (eq-eqb (countAt p a) 0 (pass .count))) (ap not (pass .held)))
-          idle)
-      by-test true e (inr x) =
-          absurd (not-both (changed-stands s t c (linkNumber s a (x .0)) ∙ x .2) (passed s p a e .unchanged (x .0) (x .1)))
+      by-test : (b : Bool) → unchanged s p a ≡ b → b ≡ false
+      by-test false e = refl
+      by-test true e = absurd (not-both (changed-stands s t c (linkNumber s a f) ∙ on) (unchanged-each s p a e f k))
 
-  pub record-passes : waiting ≡ true → ((f : ℕ) → f < s .k → isOn (getD (t .changed) (linkNumber s a f .0) 0) ≡ false) → passes s p a ≡ true
-  record-passes on off =
-      let used : Bool = usedAt p a in
-      let candidate : Bool = candidateAt p a in
-      let count : Bool = eqb (countAt p a) 0 in
-      let to-held : (used && candidate && count && not (heldAt p a)) ≡ true = sym waits-stands ∙ on in
-      let to-count : (used && candidate && count) ≡ true = and-left (used && candidate && count) _ to-held in
-      let to-candidate : (used && candidate) ≡ true = and-left (used && candidate) count to-count in
-      passes-all s p a
-      (record {
-        used = and-left used candidate to-candidate;
-        candidate = and-right used candidate to-candidate;
-        count = eqb-true (countAt p a) 0 (and-right (used && candidate) count to-count);
-        held = not-true (heldAt p a) (and-right (used && candidate && count) _ to-held);
-        unchanged = λ f k. changed-stands s t c (linkNumber s a f) ∙ off f k;
-      })
+  -- link f is unchanged and holds a record, by the tables
+  abbrev holds : ℕ → Bool
+  holds f = not (mark f) && isOn (getD (t .values) (linkNumber s a f .0) 0)
+
+  holds-stands : (f : ℕ) → holdsUnchanged p (linkNumber s a f) ≡ holds f
+  unfolding holdsUnchanged
+  holds-stands f = λ j. not (changed-stands s t c (linkNumber s a f) j) && isOn (value-stands s t c (linkNumber s a f) j .0)
+
+  pub link-holds : (f : ℕ) → f < s .k → holds f ≡ true → hasChild s p a ≡ true
+  link-holds f k on = child-here s p a f k (holds-stands f ∙ on)
+
+  pub links-hold : ((f : ℕ) → f < s .k → holds f ≡ false) → hasChild s p a ≡ false
+  links-hold off = child-none s p a (λ f k. holds-stands f ∙ off f k)
+
+  -- ---- and the record itself
+
+  module _ (some : 1 ≤ a .0) where
+    abbrev waiting : Bool
+    waiting = waits (t .used) (t .counts) (t .held) (t .candidates) (a .0 - 1)
+
+    waits-stands : waiting ≡ asked p a
+    unfolding waits
+    waits-stands =
+        sym
+        (λ j.
+        used-stands s t c a some j && candidate-stands s t c a some j && eqb (count-stands s t c a some j) 0 && not (held-stands s t c a some j))
+
+    pub record-fails : Fails s (t .used) (t .counts) (t .held) (t .candidates) (t .values) (t .changed) a → passes s p a ≡ false
+    record-fails (inl idle) = by-test (passes s p a) refl
+      where
+        by-test : (b : Bool) → passes s p a ≡ b → b ≡ false
+        by-test false e = refl
+        by-test true e = absurd (not-both (waits-stands ∙ passed-asked p a (passed s p a e)) idle)
+    record-fails (inr x) = passes-neither s p a (link-changed (x .0) (x .1) (x .2)) (x .3 t c)
+
+    waiting-passed : waiting ≡ true → Passed p a
+    waiting-passed on = asked-passed p a (sym waits-stands ∙ on)
+
+    pub record-passes : waiting ≡ true → ((f : ℕ) → f < s .k → mark f ≡ false) → passes s p a ≡ true
+    record-passes on off = passes-unchanged s p a (waiting-passed on) (links-unchanged off)
+
+    pub record-sits : waiting ≡ true → hasChild s p a ≡ true → passes s p a ≡ true
+    record-sits on child = passes-child s p a (waiting-passed on) child

@@ -1,8 +1,9 @@
--- The two outcomes of phase 6, on known tables.
+-- The three outcomes of phase 6, on known tables.
 --     closedTables             the tables after a close
 --     close-asks               what `advance::onward` asks of the collector's record
---     found-passes             what the search finds passes it
---     closed-on, freed-on      the collect event where the search finds none, and where it finds a record
+--     found-inside             what the search finds is a record of the pool
+--     closed-on                the collect event where the search finds none
+--     freed-on, emptied-on     and where it finds a record: all of its changed marks are off, or one is on
 -- Assumes nothing.
 use Prim.Native.Nat.{ℕ, zero, suc, _≤_, _<_}
 use mathlib.Core.Path.{_≡_, refl, sym, ap, _∙_}
@@ -21,7 +22,7 @@ use Rattle.rules.specs.declared.Answer.the-variants.{Stepped, Freed}
 use Rattle.rules.specs.declared.Answered.{Answered}
 use Rattle.rules.specs.Pool.{Pool}
 use Rattle.rules.specs.View.{bit}
-use Rattle.rules.specs.Collect.{passes, reclaimed, frees, nextClosed, closes, freesOrCloses, reclaims, phases}
+use Rattle.rules.specs.Collect.{stepped, unchanged, reclaimed, becomesFree, frees, empties, nextClosed, closes, freesOrEmpties, reclaimsOrCloses, reclaims, phases}
 use Rattle.tables.specs.Tables.{Tables, putHeld, putCandidates}
 use Rattle.tables.specs.Lie.{bits, poolOf, tablesOf}
 use Rattle.tables.specs.Known.{Known}
@@ -29,10 +30,10 @@ use Rattle.tables.specs.Event.{written, eventOn}
 use Rattle.tables.proofs.RoundTrip.{known-back}
 use Rattle.tables.proofs.Done.{collect-is}
 use Rattle.soundness.proofs.Core.{position-in}
-use Rattle.laws.proofs.Search.{reclaimed-passes}
-use Rattle.laws.proofs.Change.{frees-collector}
+use Rattle.laws.proofs.Search.{frees-is, reclaimed-passes}
+use Rattle.laws.proofs.Change.{empties-unmoved}
 use Rattle.advance.specs.Moved.{Movable}
-use Rattle.reclaim.specs.Lent.{Passes}
+use Rattle.reclaim.specs.Lent.{InPool, Freeable}
 use Rattle.reclaim.specs.Raw.{kept}
 
 -- ---- the close
@@ -72,21 +73,20 @@ module _ {s : Sizes} {t : Tables} {c : Collector} (known : Known s t c) (phase :
   unfolding poolOf
   close-asks = let first : c .position < 1 = position-in (known .tables .sound) 6 phase in (omega arith, omega (arith, first))
 
-  pub found-passes : (a : RecordNumber) → 1 ≤ a .0 → a ≡ reclaimed s p → Passes s t c a
-  found-passes a some e =
-      let pass : (passes s p (reclaimed s p) ≡ true) × (1 ≤ reclaimed s p .0) × (reclaimed s p .0 ≤ s .n) =
-      ⊎-elim (λ nothing. absurd (omega (arith, ap (λ x. x .0) e))) (λ x. x) (reclaimed-passes s p) in
-      record { known = known; phase = phase; some = some; low = omega (arith, ap (λ x. x .0) e, pass .2); taken = ap (passes s p) e ∙ pass .0 }
+  pub found-inside : (a : RecordNumber) → 1 ≤ a .0 → a ≡ reclaimed s p → InPool s t c a
+  found-inside a some e =
+      let low : reclaimed s p .0 ≤ s .n = ⊎-elim (λ nothing. absurd (omega (arith, ap (λ x. x .0) e))) (λ x. x .2) (reclaimed-passes s p) in
+      record { known = known; phase = phase; some = some; low = omega (arith, ap (λ x. x .0) e) }
 
   module _ (a : RecordNumber) (found : a ≡ reclaimed s p) where
     -- the step, by the number of the record that the search finds
-    step-is : (k : ℕ) → a .0 ≡ k → eventOn s t c Collect ≡ written s (freesOrCloses s p k)
+    step-is : (k : ℕ) → a .0 ≡ k → eventOn s t c Collect ≡ written s (reclaimsOrCloses s p k)
     unfolding phases reclaims
-    step-is k e = collect-is s t c 6 phase ∙ ap (λ (b : ℕ). written s (freesOrCloses s p b)) (sym (ap (λ x. x .0) found) ∙ e)
+    step-is k e = collect-is s t c 6 phase ∙ ap (λ (b : ℕ). written s (reclaimsOrCloses s p b)) (sym (ap (λ x. x .0) found) ∙ e)
 
     pub closed-on : a .0 ≡ 0 → (x : Answered) → x ≡ record { answer = Stepped; collector = record { phase = 0; position = 0; closed = nextClosed (c .closed) } }
         → (after : Tables) → closedTables t ≡ after → eventOn s t c Collect ≡ record { answer = x .answer; collector = x .collector; tables = after }
-    unfolding freesOrCloses written closes poolOf
+    unfolding reclaimsOrCloses written closes poolOf
     closed-on none x answered after h =
         step-is 0 none
         ∙ (λ j.
@@ -96,15 +96,35 @@ module _ {s : Sizes} {t : Tables} {c : Collector} (known : Known s t c) (phase :
           tables = (closes-written s p ∙ ap closedTables (known-back known) ∙ h) j;
         })
 
-    pub freed-on : 1 ≤ a .0 → (after : Tables) → (Passes s t c a → tablesOf s (frees s a p) ≡ after)
+    found-is : (k : ℕ) → 1 ≤ k → reclaimsOrCloses s p k ≡ freesOrEmpties s p (record { 0 = k })
+    unfolding reclaimsOrCloses
+    found-is zero k = absurd (not-suc-le-zero k)
+    found-is (suc i) k = refl
+
+    -- what is done to the record that is found, by its changed marks
+    marks-are : 1 ≤ a .0 → (b : Bool) → unchanged s p a ≡ b
+        → eventOn s t c Collect ≡ written s (cond b (record { answer = Freed a; pool = frees s a p }) (stepped (empties s a p)))
+    unfolding freesOrEmpties
+    marks-are some b e =
+        step-is a.0 refl ∙ ap (written s) (found-is a.0 some ∙ ap (λ x. cond x (record { answer = Freed a; pool = frees s a p }) (stepped (empties s a p))) e)
+
+    pub freed-on : 1 ≤ a .0 → unchanged s p a ≡ true → (after : Tables) → (Freeable s t c a → tablesOf s (frees s a p) ≡ after)
         → eventOn s t c Collect ≡ record { answer = Freed a; collector = c; tables = after }
-    unfolding freesOrCloses written poolOf
-    freed-on some after h =
-        step-is a.0 refl
-        ∙ freed a.0 some
-        ∙ (λ j. record { answer = Freed a; collector = frees-collector s a p j; tables = h (found-passes a some found) j })
-      where
-        freed : (k : ℕ) → 1 ≤ k → let b : RecordNumber = record { 0 = k } in
-            written s (freesOrCloses s p k) ≡ record { answer = Freed b; collector = frees s b p .collector; tables = tablesOf s (frees s b p) }
-        freed zero k = absurd (not-suc-le-zero k)
-        freed (suc i) k = refl
+    unfolding written poolOf becomesFree
+    freed-on some off after h =
+        marks-are some true off
+        ∙ (λ j.
+        record {
+          answer = Freed a;
+          collector = (ap (λ q. q .collector) (frees-is s p a off) ∙ empties-unmoved s a p .collector) j;
+          tables = h (record { inside = found-inside a some found; unchanged = off }) j;
+        })
+
+    pub emptied-on : 1 ≤ a .0 → unchanged s p a ≡ false → (after : Tables) → (InPool s t c a → tablesOf s (empties s a p) ≡ after)
+        → (x : Answered) → x ≡ record { answer = Stepped; collector = c }
+        → eventOn s t c Collect ≡ record { answer = x .answer; collector = x .collector; tables = after }
+    unfolding written poolOf
+    emptied-on some on after h x answered =
+        marks-are some false on
+        ∙ (λ j. record { answer = Stepped; collector = empties-unmoved s a p .collector j; tables = h (found-inside a some found) j })
+        ∙ (λ j. record { answer = sym answered j .answer; collector = sym answered j .collector; tables = after })

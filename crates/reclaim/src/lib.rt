@@ -1,7 +1,8 @@
 // Phase 6 of the collector, on the tables that it touches, of a pool that is known to be sound. All of it is inner (decision 4 of docs/DECISIONS.md).
 //     reclaims                    the step; each function has the name of its definition in rules/specs/Collect.antt
-//     reclaimed, is_waiting       the search
-//     frees, empties              freeing
+//     reclaimed, is_waiting, has_child     the search
+//     unchanged                   whether what it finds is freed
+//     frees, empties              freeing, and emptying the unchanged links
 //     closes                      the close
 use advance::onward;
 use advance::stepped;
@@ -20,12 +21,13 @@ use tables::place::wide;
 ghost use mathlib.Core.Path.{_≡_};
 ghost use Prim.Native.Nat.{_<_};
 ghost use lib.ListN.{length, replicate};
-ghost use Rattle.rules.specs.Collect.{reclaimed as reclaimedIn, emptiedFrom, frees as freesIn};
+ghost use Rattle.rules.specs.Size.{links};
+ghost use Rattle.rules.specs.Collect.{unchanged as unchangedIn, hasChild, reclaimed as reclaimedIn, empties as emptiesIn, frees as freesIn};
 ghost use Rattle.tables.specs.Tables.{Tables};
 ghost use Rattle.tables.specs.Lie.{poolOf};
 ghost use Rattle.tables.specs.Known.{Known};
 ghost use Rattle.tables.specs.Event.{SomePool, InPhase, Steps};
-ghost use Rattle.reclaim.specs.Lent.{searchesOn, emptiesOn, freesOn, reclaimsOn, Passing, Leaves};
+ghost use Rattle.reclaim.specs.Lent.{marksOn, linksOn, emptiesOn, freesOn, reclaimsOn, RecordOf, InPool, Freeable, Has, Leaves};
 ghost use Rattle.reclaim.specs.Raw.{waits, kept};
 
 // "used candidate with count 0, not held"; the mark that is seldom on is asked first.
@@ -36,18 +38,51 @@ fn is_waiting(used: &[u16], counts: &[u16], held: &[u16], candidates: &[u16], pl
     is_on(candidates, place) & (counts[place] == 0) & is_on(used, place) & !is_on(held, place)
 }
 
-// What phase 6 takes next: "the lowest used candidate with count 0, not held, and every changed mark among its links off; the search goes record by record and
-// link by link and stops at the first record that passes". None where none passes.
+// "has all changed marks off"
+fn unchanged(s: Sizes, changed: &[u16], a: RecordNumber) -> bool
+    requires { ⌜ RecordOf s a × (length (now changed) ≡ links s) ⌝ }
+    ensures { λ x. ⌜ ((t : Tables) (c : Collector) → x ≡ unchangedIn s (poolOf s (marksOn (changed .entry) t) c) a) ⌝ }
+{
+    let mut f = 0;
+    while f < s.k {
+        if is_on(changed, wide(link_number(s, a, f).0)) {
+            return false;
+        }
+        f += 1;
+    }
+    true
+}
+
+// "has .. an unchanged link that holds a record" (document 02, request 8)
+fn has_child(s: Sizes, values: &[u16], changed: &[u16], a: RecordNumber) -> bool
+    requires { ⌜ RecordOf s a × (length (now values) ≡ links s) × (length (now changed) ≡ links s) ⌝ }
+    ensures { λ x. ⌜ ((t : Tables) (c : Collector) → x ≡ hasChild s (poolOf s (linksOn (values .entry) (changed .entry) t) c) a) ⌝ }
+{
+    let mut f = 0;
+    while f < s.k {
+        let link = wide(link_number(s, a, f).0);
+        if !is_on(changed, link) & (values[link] != 0) {
+            return true;
+        }
+        f += 1;
+    }
+    false
+}
+
+// What phase 6 takes next: "the lowest used candidate, count 0, not held, that either has all changed marks off .. or has a changed link and also an unchanged link
+// that holds a record" (document 02, request 8); "the search goes record by record and link by link and stops at the first record that passes". None where none
+// passes.
 fn reclaimed(
     s: Sizes,
     used: &[u16],
     counts: &[u16],
     held: &[u16],
     candidates: &[u16],
+    values: &[u16],
     changed: &[u16],
 ) -> RecordNumber
-    requires { ⌜ SomePool s (searchesOn used counts held candidates changed) ⌝ }
-    ensures { λ x. ⌜ ((t : Tables) (c : Collector) → let at : Tables = searchesOn (used .entry) (counts .entry) (held .entry) (candidates .entry) (changed .entry) t in
+    requires { ⌜ SomePool s (reclaimsOn used counts held candidates values changed) ⌝ }
+    ensures { λ x. ⌜ ((t : Tables) (c : Collector) → let at : Tables = reclaimsOn (used .entry) (counts .entry) (held .entry) (candidates .entry) (values .entry) (changed .entry) t in
         Known s at c → x ≡ reclaimedIn s (poolOf s at c)) ⌝ }
 {
     let mut a = 1;
@@ -63,6 +98,9 @@ fn reclaimed(
         let mut f = 0;
         while f < s.k {
             if is_on(changed, wide(link_number(s, record, f).0)) {
+                if has_child(s, values, changed, record) {
+                    break 'records record;
+                }
                 continue 'records;
             }
             f += 1;
@@ -71,40 +109,48 @@ fn reclaimed(
     }
 }
 
-// "Freeing: links from 0 up, the count of the value falls by 1 and at 0 that record becomes a candidate, the link becomes none"
+// "links from 0 up, the count of the value falls by 1 and at 0 that record becomes a candidate, the link becomes none": of "its unchanged links" (document 02,
+// request 8), which are all where the record is freed.
 fn empties(
     s: Sizes,
     counts: &mut [u16],
     candidates: &mut [u16],
     values: &mut [u16],
+    changed: &[u16],
     a: RecordNumber,
 )
-    requires { ⌜ Passing s (emptiesOn counts candidates values) a ⌝ }
-    ensures { λ _. ⌜ Leaves s (emptiesOn (counts .entry) (candidates .entry) (values .entry)) a (emptiedFrom s a 0 (s .k)) (emptiesOn (counts .exit) (candidates .exit) (values .exit)) ⌝ }
+    requires { ⌜ Has InPool s (emptiesOn counts candidates values changed) a ⌝ }
+    ensures { λ _. ⌜ Leaves InPool s (emptiesOn (counts .entry) (candidates .entry) (values .entry) (changed .entry)) a (emptiesIn s a)
+        (emptiesOn (counts .exit) (candidates .exit) (values .exit) (changed .entry)) ⌝ }
 {
     let mut f = 0;
     while f < s.k {
         let link = wide(link_number(s, a, f).0);
+        f += 1;
+        if is_on(changed, link) {
+            continue;
+        }
         let value = RecordNumber(values[link]);
         falls(counts, candidates, value);
         values[link] = 0;
-        f += 1;
     }
 }
 
-// "then the record is free and no candidate"
+// "Freeing: ..; then the record is free and no candidate."
 fn frees(
     s: Sizes,
     used: &mut [u16],
     counts: &mut [u16],
     candidates: &mut [u16],
     values: &mut [u16],
+    changed: &[u16],
     a: RecordNumber,
 )
-    requires { ⌜ Passing s (freesOn used counts candidates values) a ⌝ }
-    ensures { λ _. ⌜ Leaves s (freesOn (used .entry) (counts .entry) (candidates .entry) (values .entry)) a (freesIn s a) (freesOn (used .exit) (counts .exit) (candidates .exit) (values .exit)) ⌝ }
+    requires { ⌜ Has Freeable s (freesOn used counts candidates values changed) a ⌝ }
+    ensures { λ _. ⌜ Leaves Freeable s (freesOn (used .entry) (counts .entry) (candidates .entry) (values .entry) (changed .entry)) a (freesIn s a)
+        (freesOn (used .exit) (counts .exit) (candidates .exit) (values .exit) (changed .entry)) ⌝ }
 {
-    empties(s, counts, candidates, values, a);
+    empties(s, counts, candidates, values, changed, a);
     let place = record_place(a);
     set_mark(used, place, false);
     set_mark(candidates, place, false);
@@ -125,7 +171,7 @@ fn closes(counts: &[u16], held: &mut [u16], candidates: &mut [u16])
     }
 }
 
-// "Phase 6: free the lowest .. Phase 6 stays. If none passes: .., closed-cycle number up by one, phase 0."
+// "Phase 6 now takes the lowest .." (document 02, request 8). "Phase 6 stays. If none passes: .., closed-cycle number up by one, phase 0."
 pub fn reclaims(
     s: Sizes,
     used: &mut [u16],
@@ -140,12 +186,16 @@ pub fn reclaims(
     ensures { λ x. ⌜ Steps 6 s (reclaimsOn (used .entry) (counts .entry) (held .entry) (candidates .entry) (values .entry) (changed .entry)) c x
         (reclaimsOn (used .exit) (counts .exit) (held .exit) (candidates .exit) (values .exit) (changed .entry)) ⌝ }
 {
-    let a = reclaimed(s, used, counts, held, candidates, changed);
+    let a = reclaimed(s, used, counts, held, candidates, values, changed);
     if a.0 == 0 {
         closes(counts, held, candidates);
         return stepped(onward(c, 1, 0));
     }
-    frees(s, used, counts, candidates, values, a);
+    if !unchanged(s, changed, a) {
+        empties(s, counts, candidates, values, changed, a);
+        return stepped(c);
+    }
+    frees(s, used, counts, candidates, values, changed, a);
     Answered {
         answer: Answer::Freed(a),
         collector: c,

@@ -10,14 +10,14 @@ use Rattle.rules.specs.View.{oldIn, lookUp, viewValue}
 use Rattle.rules.specs.Reply.{refusalNumber, number, value}
 use Rattle.rules.specs.Worker.{firstFree, firstAbove, lowest, chosen, makes, moves, drops, registerTakes, loads, looks, added, logged, snooped, linkTakes, stores, posts}
 use Rattle.rules.specs.Collect.{phaseAfter, onward, opens, snoops, madeBy, takes, clears, heldBy, scans, falls, rises, counted, counts}
-use Rattle.rules.specs.Collect.{unchangedFrom, passes, firstPassing, reclaimed, emptied, emptiedFrom, frees, closes, freesOrCloses, reclaims, phases, collects}
+use Rattle.rules.specs.Collect.{unchangedFrom, unchanged, holdsUnchanged, childFrom, hasChild, passes, firstPassing, reclaimed, emptied, emptiedFrom, becomesFree, frees, empties, closes, freesOrEmpties, reclaimsOrCloses, reclaims, phases, collects}
 use Rattle.rules.specs.Outcome.{noneFree, refusals, decide, does, outcome, start, answers, after, freeMarks, freeRecords}
 use Rattle.rules.specs.Sound.{Each}
 use Rattle.rules.specs.Starred.{Row, doneFrom, runs, samePairs, sees, seesAll, another, holds}
 
 -- the test of a row, with every definition open that a run computes through
 unfoldable pub computes : Row → Bool
-unfolding inRange links linkNumber boardNumber fresh flatten zipWith oldIn lookUp viewValue refusalNumber number value firstFree firstAbove lowest chosen makes moves drops registerTakes loads looks added logged snooped linkTakes stores posts phaseAfter onward opens snoops madeBy takes clears heldBy scans falls rises counted counts unchangedFrom passes firstPassing reclaimed emptied emptiedFrom frees closes freesOrCloses reclaims phases collects noneFree refusals decide does outcome start answers after freeMarks freeRecords samePairs sees seesAll another holds
+unfolding inRange links linkNumber boardNumber fresh flatten zipWith oldIn lookUp viewValue refusalNumber number value firstFree firstAbove lowest chosen makes moves drops registerTakes loads looks added logged snooped linkTakes stores posts phaseAfter onward opens snoops madeBy takes clears heldBy scans falls rises counted counts unchangedFrom unchanged holdsUnchanged childFrom hasChild passes firstPassing reclaimed emptied emptiedFrom becomesFree frees empties closes freesOrEmpties reclaimsOrCloses reclaims phases collects noneFree refusals decide does outcome start answers after freeMarks freeRecords samePairs sees seesAll another holds
 computes r = holds r
 
 abbrev every : List Row → Bool

@@ -1,10 +1,10 @@
--- "Collector steps" of document 01.
+-- "Collector steps" of document 01, with what document 02's request 8 changes of phase 6.
 --     phaseAfter, advanced, onward   how a step moves the collector's record on
 --     opens, snoops, takes, clears, scans, counts, reclaims     the step of each phase, from phase 0 to 6
 --     madeBy, heldBy, falls, rises   what the steps of phases 2, 4 and 5 do to the records
 --     entryHere                      the history entry at the position
---     passes, reclaimed              what phase 6 takes
---     emptied, frees, closes         what phase 6 then does
+--     unchanged, hasChild, passes, reclaimed     what phase 6 takes
+--     emptied, frees, empties, closes            what phase 6 then does
 --     phases, collects               the list of the phases, and the one collect event
 -- Assumes nothing.
 use Prim.Native.Nat.{ℕ, zero, suc, _+_, _-_, _%_}
@@ -122,15 +122,38 @@ counts s p =
 
 -- ---- phase 6
 
--- "every changed mark among its links off", of the `left` links from f on
+-- "an unchanged link" (document 02, request 8): its changed mark is off
+abbrev pub isUnchanged : Pool → LinkNumber → Bool
+isUnchanged p l = not (changedAt p l)
+
+-- "all changed marks off", of the `left` links from f on
 unfoldable pub unchangedFrom : Sizes → Pool → RecordNumber → ℕ → ℕ → Bool
 unchangedFrom s p a f zero = true
-unchangedFrom s p a f (suc left) = not (changedAt p (linkNumber s a f)) && unchangedFrom s p a (suc f) left
+unchangedFrom s p a f (suc left) = isUnchanged p (linkNumber s a f) && unchangedFrom s p a (suc f) left
 
--- "used candidate with count 0, not held, and every changed mark among its links off"
+-- a record "has all changed marks off", else it "has a changed link"
+unfoldable pub unchanged : Sizes → Pool → RecordNumber → Bool
+unchanged s p a = unchangedFrom s p a 0 (s .k)
+
+-- "an unchanged link that holds a record" (document 02, request 8): none is no record
+unfoldable pub holdsUnchanged : Pool → LinkNumber → Bool
+holdsUnchanged p l = isUnchanged p l && not (eqb (valueAt p l .0) 0)
+
+-- one of the `left` links from f on is such a link
+unfoldable pub childFrom : Sizes → Pool → RecordNumber → ℕ → ℕ → Bool
+childFrom s p a f zero = false
+childFrom s p a f (suc left) = holdsUnchanged p (linkNumber s a f) || childFrom s p a (suc f) left
+
+-- "has .. also an unchanged link that holds a record" (document 02, request 8)
+unfoldable pub hasChild : Sizes → Pool → RecordNumber → Bool
+hasChild s p a = childFrom s p a 0 (s .k)
+
+-- "used candidate, count 0, not held, that either has all changed marks off .. or has a changed link and also an unchanged link that holds a record" (document
+-- 02, request 8)
 unfoldable pub passes : Sizes → Pool → RecordNumber → Bool
 passes s p a =
-    usedAt p a && candidateAt p a && eqb (countAt p a) 0 && not (heldAt p a) && unchangedFrom s p a 0 (s .k)
+    usedAt p a && candidateAt p a && eqb (countAt p a) 0 && not (heldAt p a)
+    && (unchanged s p a || not (unchanged s p a) && hasChild s p a)
 
 -- "the search goes record by record .. and stops at the first record that passes", of the `left` records from a on; none if none passes
 unfoldable pub firstPassing : Sizes → Pool → ℕ → ℕ → RecordNumber
@@ -145,16 +168,24 @@ reclaimed s p = firstPassing s p 1 (s .n)
 unfoldable pub emptied : LinkNumber → Pool → Pool
 emptied l p = withValue l none (falls (valueAt p l) p)
 
--- "links from 0 up": the `left` links from f on
-unfoldable pub emptiedFrom : Sizes → RecordNumber → ℕ → ℕ → Pool → Pool
-emptiedFrom s a f zero p = p
-emptiedFrom s a f (suc left) p = emptiedFrom s a (suc f) left (emptied (linkNumber s a f) p)
+-- "links from 0 up": of the `left` links from f on those that are to be emptied
+unfoldable pub emptiedFrom : (LinkNumber → Bool) → Sizes → RecordNumber → ℕ → ℕ → Pool → Pool
+emptiedFrom which s a f zero p = p
+emptiedFrom which s a f (suc left) p =
+    let l = linkNumber s a f in emptiedFrom which s a (suc f) left (cond (which l) (emptied l p) p)
+
+-- "then the record is free and no candidate"
+unfoldable pub becomesFree : RecordNumber → Pool → Pool
+becomesFree a p =
+    withCandidate (withRecord (p .records .candidate) (a .0) false) (withUsed (withRecord (p .records .used) (a .0) false) p)
 
 -- "Freeing: links from 0 up, ..; then the record is free and no candidate."
 unfoldable pub frees : Sizes → RecordNumber → Pool → Pool
-frees s a p =
-    let q = emptiedFrom s a 0 (s .k) p in
-    withCandidate (withRecord (q .records .candidate) (a .0) false) (withUsed (withRecord (q .records .used) (a .0) false) q)
+frees s a p = becomesFree a (emptiedFrom (λ l. true) s a 0 (s .k) p)
+
+-- "its unchanged links are emptied as in freeing; the record stays used and a candidate" (document 02, request 8)
+unfoldable pub empties : Sizes → RecordNumber → Pool → Pool
+empties s a p = emptiedFrom (isUnchanged p) s a 0 (s .k) p
 
 -- "The closed-cycle number has 16 bits: after 65,535 it goes on at 0."
 abbrev pub nextClosed : ℕ → ℕ
@@ -167,13 +198,18 @@ closes p =
     (withHeld (map (λ h. false) (p .records .held))
     (withCandidate (zipWith (λ c n. c && eqb n 0) (p .records .candidate) (p .records .count)) p))
 
--- "Phase 6: free the lowest .. Phase 6 stays. If none passes: .."
-unfoldable pub freesOrCloses : Sizes → Pool → ℕ → Outcome
-freesOrCloses s p zero = stepped (closes p)
-freesOrCloses s p (suc i) = record { answer = Freed (record { 0 = suc i }); pool = frees s (record { 0 = suc i }) p }
+-- "that either has all changed marks off (it's freed as before) or ..": the answer is the record freed. "In the second case its unchanged links are emptied ..,
+-- and the answer is 0" (document 02, request 8)
+unfoldable pub freesOrEmpties : Sizes → Pool → RecordNumber → Outcome
+freesOrEmpties s p a = cond (unchanged s p a) (record { answer = Freed a; pool = frees s a p }) (stepped (empties s a p))
+
+-- "Phase 6 now takes the lowest .." (document 02, request 8). "Phase 6 stays. If none passes: .."
+unfoldable pub reclaimsOrCloses : Sizes → Pool → ℕ → Outcome
+reclaimsOrCloses s p zero = stepped (closes p)
+reclaimsOrCloses s p (suc i) = freesOrEmpties s p (record { 0 = suc i })
 
 unfoldable pub reclaims : Sizes → Pool → Outcome
-reclaims s p = freesOrCloses s p (reclaimed s p .0)
+reclaims s p = reclaimsOrCloses s p (reclaimed s p .0)
 
 -- ---- the collect event
 

@@ -149,6 +149,15 @@ runs =
     (Make 0 0 ∷ steps 3 ++ (Store 0 0 0 1 ∷ Drop 0 0 ∷ steps 10))
     (done 1 ∷ nothing 3 ++ (done 0 ∷ done 0 ∷ nothing 8 ++ (done 1 ∷ done 0 ∷ [])))
     (end 1 2 ∷ [])
+    -- own: "In the second case its unchanged links are emptied as in freeing; the record stays used and a candidate, and the answer is 0" (document 02, request 8).
+    -- Chain 1 to 2 to 3; link 1 of record 1 holds 4, as the board does, and is stored to in phase 4. Record 1 is dropped before the scan and waits: it gives up 2 with
+    -- the answer 0, 2 and 3 are freed in this cycle, and 1 in the next. Its changed link is not emptied, so that 4 stays counted for the board
+    ∷ row (sizesAndBoard 4 2 1 4 1)
+    (Make 0 0 ∷ Make 0 1 ∷ Make 0 2 ∷ Make 0 3 ∷ Store 0 0 0 1 ∷ Store 0 1 0 2 ∷ Store 0 0 1 3 ∷ Post 0 0 3 ∷ Drop 0 1 ∷ Drop 0 2 ∷ steps 7
+    ++ (Store 0 0 1 3 ∷ Drop 0 3 ∷ Drop 0 0 ∷ steps 17))
+    (done 1 ∷ done 2 ∷ done 3 ∷ done 4 ∷ nothing 6 ++ (nothing 7
+    ++ (done 4 ∷ done 0 ∷ done 0 ∷ nothing 6 ++ (done 2 ∷ done 3 ∷ nothing 7 ++ (done 1 ∷ done 0 ∷ [])))))
+    (used 4 true ∷ end 3 2 ∷ [])
     -- "A record linked to itself and dropped stays used." Two cycles, of seven and of five steps
     ∷ row (sizesOf 1 1 1 1)
     (Make 0 0 ∷ Store 0 0 0 0 ∷ Drop 0 0 ∷ steps 12)

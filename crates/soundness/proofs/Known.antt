@@ -4,7 +4,7 @@
 --     entry-there, entry-below     phases 3 and 5: the position has a history entry, whose numbers are in range
 --     count-most          no count passes S
 --     old-has-count       phase 5: the count that falls is not 0
---     value-has-count     phase 6: nor is any that falls while a record is freed
+--     value-has-count     phase 6: nor is any that falls while links are emptied
 --     history-has-room    phase 2: the history has room for the log that is added
 --     one-entry           phase 5: the one entry that the view value looks for exists and is the only one
 -- Assumes nothing.
@@ -22,11 +22,10 @@ use Rattle.rules.specs.declared.LinkNumber.{LinkNumber}
 use Rattle.rules.specs.Size.{links, linkNumber}
 use Rattle.rules.specs.Pool.{Pool, countAt, valueAt, changedAt, registerAt, logAt}
 use Rattle.rules.specs.View.{bit, times, allLogs}
-use Rattle.rules.specs.Collect.{noEntry, entryHere, falls, passes, emptied, emptiedFrom}
+use Rattle.rules.specs.Collect.{noEntry, entryHere, falls, isUnchanged, emptied, emptiedFrom}
 use Rattle.rules.specs.Sound.{Sound, EntryInRange, countsFor}
 use Rattle.laws.proofs.Number.{link-inside}
 use Rattle.laws.proofs.Change.{emptied-keeps}
-use Rattle.laws.proofs.Search.{Passed, passed}
 use Rattle.laws.proofs.Lists.{Each-at}
 use Rattle.laws.proofs.Tally.{tally-most}
 use Rattle.soundness.proofs.Core.{Core, core-in, position-in, history-room}
@@ -68,18 +67,15 @@ module _ {s : Sizes} {p : Pool} (h : Sound s p) where
   unfolding times
   one-entry l e k on = omega (arith, core-in h 5 e .marks l k, ap bit on)
 
-  -- link f of the record that is freed, once the links before it are emptied
-  pub value-has-count : (a : RecordNumber) (f : ℕ) → p .collector .phase ≡ 6 → 1 ≤ a .0 → a .0 ≤ s .n → passes s p a ≡ true → f < s .k
-      → 1 ≤ valueAt (emptiedFrom s a 0 f p) (linkNumber s a f) .0
-      → 1 ≤ countAt (emptiedFrom s a 0 f p) (valueAt (emptiedFrom s a 0 f p) (linkNumber s a f))
+  -- an unchanged link f of a record, once the unchanged links before it are emptied
+  pub value-has-count : (a : RecordNumber) (f : ℕ) → p .collector .phase ≡ 6 → 1 ≤ a .0 → a .0 ≤ s .n → f < s .k → changedAt p (linkNumber s a f) ≡ false
+      → let q : Pool = emptiedFrom (isUnchanged p) s a 0 f p in 1 ≤ valueAt q (linkNumber s a f) .0 → 1 ≤ countAt q (valueAt q (linkNumber s a f))
   unfolding emptied falls
-  value-has-count a f e some low taken k there =
-      let pass : Passed s p a = passed s p a taken in
-      let q : Pool = emptiedFrom s a 0 f p in
+  value-has-count a f e some low k off there =
+      let q : Pool = emptiedFrom (isUnchanged p) s a 0 f p in
       let l : LinkNumber = linkNumber s a f in
       let v : RecordNumber = valueAt q l in
-      let c : Core s q [] [] =
-      core-emptied-from s a f p (core-in h 6 e) some low (omega arith) pass in
-      let off : changedAt q l ≡ false =
-      ap (λ (marks : List Bool). getD marks l.0 false) (emptied-keeps (λ q. q .links .changed) (λ l q. refl) s a 0 f p) ∙ pass .unchanged f k in
-      omega (arith, value-counted c l (link-inside s a f some low k) off v there (c .values l), ap bit (eq-eqb v.0 v.0 refl))
+      let c : Core s q [] [] = core-emptied-from s a p (core-in h 6 e) some low f (omega arith) in
+      let still-off : changedAt q l ≡ false =
+      ap (λ (marks : List Bool). getD marks l.0 false) (emptied-keeps (isUnchanged p) s a (λ q. q .links .changed) (λ l q. refl) 0 f p) ∙ off in
+      omega (arith, value-counted c l (link-inside s a f some low k) still-off v there (c .values l), ap bit (eq-eqb v.0 v.0 refl))

@@ -15,17 +15,17 @@ use Rattle.rules.specs.declared.RecordNumber.{RecordNumber}
 use Rattle.rules.specs.declared.Collector.{Collector}
 use Rattle.rules.specs.Pool.{Entry, Pool, registersAt, logAt, withHeld, withChanged, withSnoop, withLog, withHistory}
 use Rattle.rules.specs.Collect.{opens, snoops, madeBy, takes, entryHere, clears, heldBy, scans, falls, rises, counted, counts}
-use Rattle.rules.specs.Collect.{frees, closes, reclaims, collects}
+use Rattle.rules.specs.Collect.{becomesFree, empties, closes, reclaims, collects}
 use Rattle.rules.specs.Sound.{Sound, emptyIn, entriesIn, positions, uncleared, uncounted}
-use Rattle.laws.proofs.Change.{frees-collector, frees-history}
+use Rattle.laws.proofs.Change.{empties-unmoved}
 use Rattle.laws.proofs.Search.{reclaims-cases}
 use Rattle.laws.proofs.Phases.{by-phase, snoops-cases, takes-cases, clears-cases, scans-cases, counts-cases}
-use Rattle.soundness.proofs.Core.{Core, core-in, position-in, empty-in, sound, core-moved, arrives, unclearedIn, uncountedIn, positionsIn}
+use Rattle.soundness.proofs.Core.{Core, core, core-in, position-in, empty-in, sound, core-moved, arrives, unclearedIn, uncountedIn, positionsIn}
 use Rattle.soundness.proofs.Parts.{core-records, core-snoop, length-heldBy}
 use Rattle.soundness.proofs.Take.{core-taken, core-made}
 use Rattle.soundness.proofs.Clear.{core-cleared}
 use Rattle.soundness.proofs.Count.{core-counted, core-emptied-history}
-use Rattle.soundness.proofs.Reclaim.{core-freed, core-closed}
+use Rattle.soundness.proofs.Reclaim.{core-empties, core-free, core-closed}
 
 -- ---- an event that leaves the collector and the history as they are
 
@@ -139,16 +139,22 @@ module _ {s : Sizes} {p : Pool} (worker : 0 < s .w) (h : Sound s p) where
       sound (core-moved (closes p .collector) (core-closed c)) (omega arith) (omega arith) (λ t. empty) (λ t. absurd t)
 
   -- "Phase 6 stays."
-  frees-sound : (a : RecordNumber) → p .collector .phase ≡ 6 → Core s (frees s a p) [] [] → Sound s (frees s a p)
+  empties-sound : (a : RecordNumber) → p .collector .phase ≡ 6 → 1 ≤ a .0 → a .0 ≤ s .n → Sound s (empties s a p)
   unfolding uncleared uncounted
-  frees-sound a e c =
-      stays h (frees s a p) (sym (frees-collector s a p)) (sym (frees-history s a p))
-      (subst (λ (n : ℕ). Core s (frees s a p) (unclearedIn n here (p .history)) (uncountedIn n here (p .history))) (sym e) c)
+  empties-sound a e some low =
+      let unmoved = empties-unmoved s a p in
+      stays h (empties s a p) (sym (unmoved .collector)) (sym (unmoved .history))
+      (subst (λ (n : ℕ). Core s (empties s a p) (unclearedIn n here (p .history)) (uncountedIn n here (p .history))) (sym e) (core-empties s a p (core-in h 6 e) some low))
+
+  frees-sound : (a : RecordNumber) → Sound s (empties s a p) → Sound s (becomesFree a (empties s a p))
+  unfolding becomesFree uncleared uncounted
+  frees-sound a sound-then = stays sound-then (becomesFree a (empties s a p)) refl refl (core-free a (core sound-then))
 
   reclaims-sound : p .collector .phase ≡ 6 → Sound s (reclaims s p .pool)
   reclaims-sound e =
-      let c : Core s p [] [] = core-in h 6 e in
-      reclaims-cases s p (λ o. Sound s (o .pool)) (λ z. closes-sound c (empty-in h 6 e tt)) (λ y some low pass. frees-sound y e (core-freed s y p c some low pass))
+      reclaims-cases s p (λ o. Sound s (o .pool)) (λ z. closes-sound (core-in h 6 e) (empty-in h 6 e tt))
+      (λ y some low pass off. frees-sound y (empties-sound y e some low))
+      (λ y some low pass on. empties-sound y e some low)
 
   -- ---- the collect event
 

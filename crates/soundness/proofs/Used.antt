@@ -27,7 +27,7 @@ use Rattle.rules.specs.Size.{inRange, linkNumber, boardNumber}
 use Rattle.rules.specs.Pool.{Pool, ofRecord, withRecord, usedAt, registerAt, fresh}
 use Rattle.rules.specs.Reply.{refusalNumber, number, value, Outcome}
 use Rattle.rules.specs.Worker.{chosen, makes, moves, drops, registerTakes, loads, looks, added, linkTakes, stores, posts}
-use Rattle.rules.specs.Collect.{onward, stepped, opens, snoops, madeBy, takes, clears, scans, falls, rises, counted, counts, emptied, frees, closes, freesOrCloses, reclaims, collects}
+use Rattle.rules.specs.Collect.{onward, stepped, opens, snoops, madeBy, takes, clears, scans, falls, rises, counted, counts, isUnchanged, emptied, becomesFree, empties, closes, collects}
 use Rattle.rules.specs.Outcome.{refused, does, outcome, answers, after, answersMade, answersFreed, usedAfter, inUse}
 use Rattle.rules.specs.Sound.{Sound}
 use Rattle.laws.proofs.Tests.{eqb-cases, and-left, and-right}
@@ -81,8 +81,13 @@ module _ (s : Sizes) (p : Pool) (h : Sound s p) (a : RecordNumber) (some : 1 ≤
   unfolding usedAfter answersMade answersFreed value
   stepped-told q e = e ∙ sym (ap (λ t. cond t false (usedAt p a)) (ne-eqb 0 a.0 (λ z. omega arith)))
 
+  -- a record whose links are emptied stays used, and so do all others
+  empties-used : (y : RecordNumber) → empties s y p .records .used ≡ p .records .used
+  unfolding empties emptied falls
+  empties-used y = emptied-keeps (isUnchanged p) s y (λ q. q .records .used) (λ l q. refl) 0 (s .k) p
+
   collects-told : Told Collect (collects s p)
-  unfolding opens onward snoops madeBy takes clears scans counted falls rises counts closes freesOrCloses reclaims frees emptied usedAfter answersMade answersFreed value
+  unfolding opens onward snoops madeBy takes clears scans counted falls rises counts closes becomesFree empties emptied usedAfter answersMade answersFreed value
   collects-told =
       by-phase s p (Told Collect) (h .phase)
       (λ e. stepped-told (opens s p .pool) refl)
@@ -92,9 +97,11 @@ module _ (s : Sizes) (p : Pool) (h : Sound s p) (a : RecordNumber) (some : 1 ≤
       (λ e. stepped-told (scans s p .pool) refl)
       (λ e. stepped-told (counts s p .pool) refl)
       (λ e.
-      reclaims-cases s p (Told Collect) (λ z. stepped-told (closes p) refl) (λ y some-y low pass.
-      ap (λ table. ofRecord (withRecord table (y .0) false) (a .0) false) (emptied-keeps (λ q. q .records .used) (λ l q. refl) s y 0 (s .k) p)
-      ∙ used-set (p .records .used) a y false some-y (omega (arith, h .shaped .records .used))))
+      reclaims-cases s p (Told Collect) (λ z. stepped-told (closes p) refl)
+      (λ y some-y low pass off.
+      ap (λ table. ofRecord (withRecord table (y .0) false) (a .0) false) (empties-used y)
+      ∙ used-set (p .records .used) a y false some-y (omega (arith, h .shaped .records .used)))
+      (λ y some-y low pass on. stepped-told (empties s y p) (ap (λ table. ofRecord table (a .0) false) (empties-used y))))
 
   link-takes-used : (w : ℕ) (l : LinkNumber) (r : ℕ) → usedAt (linkTakes w l r p .pool) a ≡ usedAt p a
   unfolding added
@@ -164,7 +171,7 @@ module _ (s : Sizes) (p : Pool) (h : Sound s p) (a : RecordNumber) where
   made-was-free Collect = λ z. absurd (true≢false (sym z))
 
   -- only the step of phase 6 frees, and what it frees passed the search
-  pub freed-passed : (e : Event) → 1 ≤ a .0 → answersFreed a e (outcome s p e .answer) ≡ true → (p .collector .phase ≡ 6) × (a .0 ≤ s .n) × Passed s p a
+  pub freed-passed : (e : Event) → 1 ≤ a .0 → answersFreed a e (outcome s p e .answer) ≡ true → (p .collector .phase ≡ 6) × (a .0 ≤ s .n) × Passed p a
   unfolding outcome does answersFreed value opens snoops takes clears scans counts
   freed-passed (Make w r) some = λ z. absurd (true≢false (sym z))
   freed-passed (Move w r q) some = λ z. absurd (true≢false (sym z))
@@ -177,14 +184,16 @@ module _ (s : Sizes) (p : Pool) (h : Sound s p) (a : RecordNumber) where
       decided-outcome Took p (λ why. no-record) _ _ (λ t.
       by-phase s p Took (h .phase) (λ e. no-record) (λ e. no-record) (λ e. no-record) (λ e. no-record) (λ e. no-record) (λ e. no-record)
       (λ e.
-      reclaims-cases s p Took (λ z. no-record) (λ y some-y low pass z.
-      subst (λ (b : RecordNumber). (p .collector .phase ≡ 6) × (b .0 ≤ s .n) × Passed s p b) (record-same y a (eqb-true y.0 a.0 z)) (e, low, pass))))
+      reclaims-cases s p Took (λ z. no-record)
+      (λ y some-y low pass off z.
+      subst (λ (b : RecordNumber). (p .collector .phase ≡ 6) × (b .0 ≤ s .n) × Passed p b) (record-same y a (eqb-true y.0 a.0 z)) (e, low, pass))
+      (λ y some-y low pass on. no-record)))
     where
       Took : Outcome → Type 0
-      Took o = answersFreed a Collect (o .answer) ≡ true → (p .collector .phase ≡ 6) × (a .0 ≤ s .n) × Passed s p a
+      Took o = answersFreed a Collect (o .answer) ≡ true → (p .collector .phase ≡ 6) × (a .0 ≤ s .n) × Passed p a
 
       -- a step that frees nothing answers no record
-      no-record : eqb 0 (a .0) ≡ true → (p .collector .phase ≡ 6) × (a .0 ≤ s .n) × Passed s p a
+      no-record : eqb 0 (a .0) ≡ true → (p .collector .phase ≡ 6) × (a .0 ≤ s .n) × Passed p a
       no-record z = absurd (let e = eqb-true 0 a.0 z in omega arith)
 
   pub freed-was-used : (e : Event) → 1 ≤ a .0 → answersFreed a e (outcome s p e .answer) ≡ true → usedAt p a ≡ true

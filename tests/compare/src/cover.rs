@@ -1,6 +1,6 @@
-//! What a set of traces covered: how they ended, how their sizes fields say B, what their makes came upon,
-//! what was wrong at once with an event, what their cycles were, how they were handed over, and where in a
-//! field a read ended.
+//! What a set of traces covered: how they ended, how their sizes fields say B, what their makes and the steps
+//! of phase 6 came upon, what was wrong at once with an event, what their cycles were, how they were handed
+//! over, and where in a field a read ended.
 
 use std::fmt;
 use std::str;
@@ -13,6 +13,7 @@ use second::tally::{
     cycles, left_open, makes, sizes_fields, wrongs, CYCLES, LEFT_OPEN, MAKES, SIZES_FIELDS, WRONGS,
 };
 use second::trace::{well_formed, Field, Kind, Reader};
+use second::waiting::{reclaims, RECLAIMS};
 
 use crate::hand::{pieces, Way, ROOM};
 
@@ -54,6 +55,7 @@ pub struct Cover {
     answers: [u64; 15],
     sizes_fields: [u64; SIZES_FIELDS.len()],
     makes: [u64; MAKES.len()],
+    reclaims: [u64; RECLAIMS.len()],
     wrongs: [u64; WRONGS.len()],
     cycles: [u64; CYCLES.len()],
     left_open: [u64; LEFT_OPEN.len()],
@@ -119,10 +121,13 @@ impl Cover {
                 }
                 (Field::Event { event, .. }, Some(pool)) => {
                     add(&mut self.wrongs, &wrongs(pool, event).map(u64::from));
-                    let upon = matches!(event, Event::Make { .. }).then(|| makes(pool));
+                    if event == Event::Collect {
+                        add(&mut self.reclaims, &reclaims(pool).map(u64::from));
+                    }
+                    let makes = matches!(event, Event::Make { .. }).then(|| makes(pool));
                     let seen = Upon::of(pool);
-                    if let (0, Some(upon)) = (happen(pool, event).number, upon) {
-                        add(&mut self.makes, &upon.map(u64::from));
+                    if let (0, Some(makes)) = (happen(pool, event).number, makes) {
+                        add(&mut self.makes, &makes.map(u64::from));
                     }
                     if let Some(cycle) = watched.event(seen, pool) {
                         closed += 1;
@@ -144,6 +149,7 @@ impl Cover {
         add(&mut self.answers, &other.answers);
         add(&mut self.sizes_fields, &other.sizes_fields);
         add(&mut self.makes, &other.makes);
+        add(&mut self.reclaims, &other.reclaims);
         add(&mut self.wrongs, &other.wrongs);
         add(&mut self.cycles, &other.cycles);
         add(&mut self.left_open, &other.left_open);
@@ -176,9 +182,11 @@ impl Cover {
             ask(format!("an event answered {number}"), self.answers[number]);
         }
         let sizes_fields = SIZES_FIELDS.into_iter().zip(self.sizes_fields);
-        let upon = MAKES.into_iter().zip(self.makes).chain(WRONGS.into_iter().zip(self.wrongs));
+        let makes = MAKES.into_iter().zip(self.makes);
+        let reclaims = RECLAIMS.into_iter().zip(self.reclaims);
+        let wrongs = WRONGS.into_iter().zip(self.wrongs);
         let cycles = CYCLES.into_iter().zip(self.cycles).chain(LEFT_OPEN.into_iter().zip(self.left_open));
-        for (what, times) in sizes_fields.chain(upon).chain(cycles) {
+        for (what, times) in sizes_fields.chain(makes).chain(reclaims).chain(wrongs).chain(cycles) {
             ask(what.into(), times);
         }
         let ways = [self.by_pipe, self.by_file, self.by_pieces];
@@ -280,6 +288,10 @@ impl fmt::Display for Cover {
         }
         writeln!(out, "how often a make came upon this:")?;
         for (times, what) in self.makes.iter().zip(MAKES) {
+            writeln!(out, "{times:>10}  {what}")?;
+        }
+        writeln!(out, "how often a step of phase 6 came upon this:")?;
+        for (times, what) in self.reclaims.iter().zip(RECLAIMS) {
             writeln!(out, "{times:>10}  {what}")?;
         }
         writeln!(out, "how often this was wrong at once with an event:")?;

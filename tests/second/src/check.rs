@@ -11,6 +11,7 @@ use crate::reach::{left_to_loops, lost, reached, two_workers_share};
 use crate::report::{sum_of_counts, Cycles, Upon};
 use crate::sound::{sound, tallies_are_the_counts};
 use crate::tally::Tally;
+use crate::waiting::waiting;
 
 /// A cycle "opens with the step out of phase 0 and closes with the step back to it".
 struct Cycle {
@@ -18,6 +19,8 @@ struct Cycle {
     /// Lost at the opening, loops aside.
     lost: BTreeSet<Record>,
     freed: BTreeSet<Record>,
+    /// How many links its steps have emptied.
+    emptied: usize,
 }
 
 /// What has to be remembered of a run.
@@ -29,6 +32,8 @@ pub struct Check<'a> {
     made_and_not_freed: BTreeSet<Record>,
     /// What the last make answered with 0 has made; 0 before the first.
     last_made: u16,
+    /// The records that waited when the last cycle closed.
+    waited: BTreeSet<Record>,
     cycle: Option<Cycle>,
     /// The cycles as the report has them, and the nets of those that have closed, together.
     reported: Cycles,
@@ -50,6 +55,12 @@ impl Moment<'_> {
             Event::Collect => self.answer.value,
             _ => None,
         }
+    }
+
+    /// The links that a collector step emptied.
+    fn emptied(&self) -> impl Iterator<Item = Link> + '_ {
+        let held = self.before.values.keys().copied().filter(|_| self.event == Event::Collect);
+        held.filter(|link| self.after.value(*link).is_none())
     }
 
     fn opens(&self) -> bool {
@@ -76,6 +87,7 @@ impl<'a> Check<'a> {
             last_seen: BTreeMap::new(),
             made_and_not_freed: BTreeSet::new(),
             last_made: 0,
+            waited: BTreeSet::new(),
             cycle: None,
             reported: Cycles::default(),
             nets: 0,
@@ -94,6 +106,7 @@ impl<'a> Check<'a> {
         self.tally.event(before, event, answer, after);
         refused_changes_nothing(&moment)?;
         freed_is_out_of_reach(&moment)?;
+        emptied_is_out_of_reach(&moment)?;
         sound(after)?;
         self.made_is_the_next_free(&moment)?;
         self.used_are_made_less_freed(&moment)?;
@@ -102,6 +115,7 @@ impl<'a> Check<'a> {
         self.remember_freed(&moment);
         self.cycle_is_reported(&moment)?;
         self.cycle_is_short(&moment)?;
+        self.waited_is_freed(&moment)?;
         self.lost_is_freed(&moment)?;
         self.counts_at_the_close(&moment)
     }
@@ -141,7 +155,7 @@ impl<'a> Check<'a> {
     }
 
     /// The value last seen: none at first; at the clearing of a changed mark the link's value
-    /// then; at an emptying in freeing, none.
+    /// then; at an emptying, in freeing or of a waiting record, none.
     fn remember_last_seen(&mut self, moment: &Moment) {
         for link in moment.before.changed.difference(&moment.after.changed) {
             match moment.before.value(*link) {
@@ -149,8 +163,8 @@ impl<'a> Check<'a> {
                 None => self.last_seen.remove(link),
             };
         }
-        if let Some(record) = moment.freed() {
-            self.last_seen.retain(|link, _| link.record() != Some(record));
+        for link in moment.emptied() {
+            self.last_seen.remove(&link);
         }
     }
 
@@ -165,18 +179,20 @@ impl<'a> Check<'a> {
             collector_steps: 0,
             lost: lost.difference(&left).copied().collect(),
             freed: BTreeSet::new(),
+            emptied: 0,
         });
     }
 
     fn remember_freed(&mut self, moment: &Moment) {
         if let Some(cycle) = &mut self.cycle {
             cycle.freed.extend(moment.freed());
+            cycle.emptied += moment.emptied().count();
         }
     }
 
     /// A report for each cycle: a cycle is reported exactly where one closes, with as many records freed
-    /// as its steps were answered. An entry makes one count fall and one rise at most, and freeing K fall
-    /// at most. What a cycle did to the counts its collector steps did, and between two cycles nothing
+    /// as its steps were answered. An entry makes one count fall and one rise at most, and a link that is
+    /// emptied, in freeing or of a waiting record, one fall. What a cycle did to the counts its collector steps did, and between two cycles nothing
     /// happens to them: so the nets of all cycles, together, are the sum of all counts, the links that
     /// are counted.
     fn cycle_is_reported(&mut self, moment: &Moment) -> Result<(), String> {
@@ -190,8 +206,8 @@ impl<'a> Check<'a> {
         })?;
         let Some(cycle) = reported else { return Ok(()) };
         self.tally.cycle(&cycle);
-        let (taken, emptied) = (cycle.taken as i64, cycle.freed as i64 * i64::from(moment.after.sizes.k));
-        hold((-taken - emptied..=taken).contains(&cycle.net), || format!("no cycle can be so: {cycle}"))?;
+        let (taken, emptied) = (cycle.taken as i64, closed.map_or(0, |cycle| cycle.emptied) as i64);
+        hold((-taken..=taken).contains(&(cycle.net + emptied)), || format!("no cycle can be so: {cycle}"))?;
         self.nets += cycle.net;
         let counted = sum_of_counts(moment.after);
         hold(self.nets == counted, || {
@@ -211,6 +227,15 @@ impl<'a> Check<'a> {
             });
         }
         Ok(())
+    }
+
+    /// "it waits, and is freed in the next cycle": so is whatever waited when a cycle closed.
+    fn waited_is_freed(&mut self, moment: &Moment) -> Result<(), String> {
+        let (true, Some(cycle)) = (moment.closes(), &self.cycle) else { return Ok(()) };
+        let waits = waiting(moment.before);
+        let waited = std::mem::replace(&mut self.waited, waits);
+        let left: Vec<u16> = waited.difference(&cycle.freed).map(|record| record.0).collect();
+        hold(left.is_empty(), || format!("waited in the cycle before, and not freed in this one: {left:?}"))
     }
 
     /// What was lost at the opening, loops aside, was freed in that cycle.
@@ -249,4 +274,18 @@ fn freed_is_out_of_reach(moment: &Moment) -> Result<(), String> {
         }),
         None => Ok(()),
     }
+}
+
+/// What a collector step empties is a link of a record that is out of reach, freed or not: nobody can see
+/// that it was emptied.
+fn emptied_is_out_of_reach(moment: &Moment) -> Result<(), String> {
+    let emptied: BTreeSet<Option<Record>> = moment.emptied().map(Link::record).collect();
+    if emptied.is_empty() {
+        return Ok(());
+    }
+    let reached = reached(moment.before);
+    let lost = |record: &Option<Record>| record.is_some_and(|record| !reached.contains(&record));
+    hold(emptied.iter().all(lost), || {
+        "a collector step emptied a board entry, or a link in reach of a register or a board entry".into()
+    })
 }

@@ -1,4 +1,4 @@
-//! "Collector steps" of document 01.
+//! "Collector steps" of document 01, with what document 02's request 8 makes of phase 6.
 
 use crate::pool::{Link, Pool, Record};
 
@@ -11,7 +11,7 @@ pub fn collect(pool: &mut Pool) -> Option<Record> {
         3 => clear_mark(pool),
         4 => scan_registers(pool),
         5 => count_entry(pool),
-        _ => return free_or_close(pool),
+        _ => return reclaim_or_close(pool),
     }
     None
 }
@@ -74,34 +74,65 @@ fn count_entry(pool: &mut Pool) {
     }
 }
 
-/// "Phase 6: free the lowest [record that may go] ... Phase 6 stays. If none passes: [close]."
-fn free_or_close(pool: &mut Pool) -> Option<Record> {
-    let found = pool.sizes.records().find(|record| may_go(pool, *record));
-    match found {
+/// "Phase 6 now takes the lowest [record that may be taken]" (document 02, request 8). Where all its
+/// changed marks are off "it's freed as before", and is the answer. "In the second case its unchanged
+/// links are emptied ..; the record stays used and a candidate, and the answer is 0." "Phase 6 stays. If
+/// none passes: [close]."
+fn reclaim_or_close(pool: &mut Pool) -> Option<Record> {
+    let taken = pool.sizes.records().find(|record| may_be_taken(pool, *record));
+    match taken {
+        Some(record) if has_a_changed_link(pool, record) => {
+            empty_the_unchanged_links(pool, record);
+            return None;
+        }
         Some(record) => free(pool, record),
         None => close(pool),
     }
-    found
+    taken
 }
 
-/// "used candidate with count 0, not held, and every changed mark among its links off."
-fn may_go(pool: &Pool, record: Record) -> bool {
+/// "used candidate, count 0, not held, that either has all changed marks off .. or has a changed link and
+/// also an unchanged link that holds a record."
+fn may_be_taken(pool: &Pool, record: Record) -> bool {
     pool.used.contains(&record)
         && pool.candidates.contains(&record)
         && pool.count(record) == 0
         && !pool.held.contains(&record)
-        && !pool.sizes.links_of(record).any(|link| pool.changed.contains(&link))
+        && (!has_a_changed_link(pool, record) || has_a_child(pool, record))
 }
 
-/// "Freeing: links from 0 up, the count of the value falls by 1 and at 0 that record becomes a
-/// candidate, the link becomes none; then the record is free and no candidate."
+/// "has a changed link."
+fn has_a_changed_link(pool: &Pool, record: Record) -> bool {
+    pool.sizes.links_of(record).any(|link| pool.changed.contains(&link))
+}
+
+/// "an unchanged link that holds a record."
+fn has_a_child(pool: &Pool, record: Record) -> bool {
+    pool.sizes.links_of(record).any(|link| !pool.changed.contains(&link) && pool.value(link).is_some())
+}
+
+/// "Freeing: links from 0 up, [each emptied]; then the record is free and no candidate."
 fn free(pool: &mut Pool, record: Record) {
     for link in pool.sizes.links_of(record) {
-        fall(pool, pool.value(link));
-        pool.set_value(link, None);
+        empty(pool, link);
     }
     pool.used.remove(&record);
     pool.candidates.remove(&record);
+}
+
+/// "its unchanged links are emptied as in freeing."
+fn empty_the_unchanged_links(pool: &mut Pool, record: Record) {
+    for link in pool.sizes.links_of(record) {
+        if !pool.changed.contains(&link) {
+            empty(pool, link);
+        }
+    }
+}
+
+/// "the count of the value falls by 1 and at 0 that record becomes a candidate, the link becomes none."
+fn empty(pool: &mut Pool, link: Link) {
+    fall(pool, pool.value(link));
+    pool.set_value(link, None);
 }
 
 /// "If none passes: all held marks off, candidate marks off where the count is not 0,

@@ -1,10 +1,11 @@
 //! What a worker sets out to do next: a few events in a row, between which the collector and the
-//! other workers have their turns.
+//! other workers have their turns. One of them lets the collector step up to a certain moment.
 //!
 //! A record passes from register to register through links, and from worker to worker through the
 //! board, or by being freed and made again.
 
 use crate::event::Event;
+use crate::leave::leave_waiting;
 use crate::pool::Pool;
 use crate::random::Random;
 use crate::reach::posted;
@@ -27,6 +28,7 @@ pub enum Habit {
     PostTheSame,
     LookUp,
     TakeOff,
+    LeaveWaiting,
     MakeAll,
     DropAll,
     Anything,
@@ -34,7 +36,7 @@ pub enum Habit {
 }
 
 impl Habit {
-    pub const ALL: [Habit; 20] = [
+    pub const ALL: [Habit; 21] = [
         Habit::ChainFromTheTail,
         Habit::ChainFromTheHead,
         Habit::Share,
@@ -51,6 +53,7 @@ impl Habit {
         Habit::PostTheSame,
         Habit::LookUp,
         Habit::TakeOff,
+        Habit::LeaveWaiting,
         Habit::MakeAll,
         Habit::DropAll,
         Habit::Anything,
@@ -62,6 +65,11 @@ impl Habit {
         matches!(self, Habit::PostTheSame | Habit::LookUp | Habit::TakeOff)
     }
 
+    /// Whether it begins with a record of its own.
+    fn makes_its_own(self) -> bool {
+        matches!(self, Habit::LeaveWaiting)
+    }
+
     fn is_of_the_board(self) -> bool {
         self.looks() || matches!(self, Habit::PostAndDrop | Habit::PostAgainAndAgain)
     }
@@ -70,8 +78,8 @@ impl Habit {
     /// first, or waits for one to be freed; where there is no board it mostly leaves it alone.
     pub fn plan(self, pool: &Pool, w: u8, random: &mut Random) -> Vec<Event> {
         let mut hand = Hand { pool, w, random };
-        let finds = self.looks() && posted(pool).next().is_some();
-        if hand.is_empty() && !finds && hand.random.percent(90) {
+        let needs_none = self.makes_its_own() || self.looks() && posted(pool).next().is_some();
+        if hand.is_empty() && !needs_none && hand.random.percent(90) {
             return hand.make_or_wait();
         }
         if self.is_of_the_board() && pool.sizes.b == 0 && hand.random.percent(90) {
@@ -94,6 +102,7 @@ impl Habit {
             Habit::PostTheSame => hand.post_the_same(),
             Habit::LookUp => hand.look_up(),
             Habit::TakeOff => hand.take_off(),
+            Habit::LeaveWaiting => leave_waiting(pool, w, hand.random),
             Habit::MakeAll => hand.make_all(),
             Habit::DropAll => hand.drop_all(),
             Habit::Anything => vec![hand.anything()],

@@ -21,13 +21,17 @@
 //! - `check`      the promises, held to after every event
 //! - `tally`      what a set of traces reached
 //! - `board`      what is counted there of the board
+//! - `waiting`    what is counted there of records that wait
 //!
 //! The made traces
 //! - `random`     a seeded stream of numbers
 //! - `habit`      what a worker sets out to do next
+//! - `leave`      how a worker leaves a record waiting, with a chain behind it
 //! - `maker`      a whole trace from a seed
 //! - `damage`     the ways in which a trace is damaged
 //! - `many`       many seeds, made and checked in one process
+//!
+//! Beside the program `second` there is `bin/night`: how many records a night of long chains frees.
 
 #![forbid(unsafe_code)]
 
@@ -38,6 +42,7 @@ pub mod damage;
 pub mod event;
 pub mod habit;
 pub mod join;
+pub mod leave;
 pub mod maker;
 pub mod many;
 pub mod pool;
@@ -49,4 +54,5 @@ pub mod row;
 pub mod sound;
 pub mod tally;
 pub mod trace;
+pub mod waiting;
 pub mod worker;

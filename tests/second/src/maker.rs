@@ -105,6 +105,16 @@ pub fn sizes_field(sizes: Sizes, random: &mut Random) -> Field {
     Field::Sizes { sizes, carries_b: sizes.b > 0 || random.percent(50) }
 }
 
+/// A stretch of events: how many of a hundred are the collector's, from none to all, and a few habits
+/// of the workers. In one of ten the workers set out to leave records waiting.
+pub fn stretch(random: &mut Random) -> (usize, Vec<Habit>) {
+    if random.percent(10) {
+        return (random.pick(&[0, 0, 5]), vec![Habit::LeaveWaiting]);
+    }
+    let rate = random.pick(&[0, 3, 10, 30, 50, 70, 90, 100]);
+    (rate, (0..3).map(|_| random.pick(&Habit::ALL)).collect())
+}
+
 struct Maker {
     random: Random,
     /// The pool as the events so far leave it: workers look at their registers.
@@ -152,13 +162,10 @@ impl Maker {
         }
     }
 
-    /// Stretches of events. In each the collector has another rate, from never to always, and the
-    /// workers have a few habits of their own.
     fn work(&mut self, events: usize) {
         let until = self.steps as usize + events;
         while (self.steps as usize) < until {
-            let rate = self.random.pick(&[0, 3, 10, 30, 50, 70, 90, 100]);
-            let habits: Vec<Habit> = (0..3).map(|_| self.random.pick(&Habit::ALL)).collect();
+            let (rate, habits) = stretch(&mut self.random);
             for _ in 0..5 + self.random.below(40) {
                 if self.random.percent(rate) {
                     self.add(Event::Collect);

@@ -15,6 +15,7 @@ use crate::pool::{Link, Pool, Record, Sizes};
 use crate::replay::Ending;
 use crate::report::Cycle;
 use crate::trace::Kind;
+use crate::waiting::{self, reclaims, Waiting, RECLAIMS};
 
 const KINDS: [Kind; 8] =
     [Kind::Make, Kind::Move, Kind::Drop, Kind::Load, Kind::Store, Kind::Look, Kind::Post, Kind::Collect];
@@ -99,9 +100,10 @@ pub fn wrongs(before: &Pool, event: Event) -> [bool; WRONGS.len()] {
 }
 
 /// What a closed cycle may be.
-pub const CYCLES: [&str; 7] = [
+pub const CYCLES: [&str; 8] = [
     "cycle: its net is below nought",
     "cycle: its net is below nought, and no record is freed",
+    "cycle: its net is below nought, nothing is taken and no record is freed",
     "cycle: its net is nought, and entries are taken",
     "cycle: its net is above nought",
     "cycle: its net is above nought, and records are freed",
@@ -115,6 +117,7 @@ pub fn cycles(cycle: &Cycle) -> [bool; CYCLES.len()] {
     [
         net < 0,
         net < 0 && freed == 0,
+        net < 0 && freed == 0 && taken == 0,
         net == 0 && taken > 0,
         net > 0,
         net > 0 && freed > 0,
@@ -133,12 +136,11 @@ pub fn left_open(ending: &Ending, is_open: bool) -> [bool; LEFT_OPEN.len()] {
 }
 
 /// Situations that the rules are about and an answer number does not show.
-const SITUATIONS: [&str; 10] = [
+const SITUATIONS: [&str; 9] = [
     "store logs an overwritten record",
     "store on a link that is marked already",
     "snooped store of a record",
     "entry counted whose link is marked again and holds another value",
-    "phase 6 passes over a candidate that only an entry outstanding keeps",
     "phase 6 passes over a candidate that only its held mark keeps",
     "opening with lost records that no loop keeps",
     "opening with lost records that a loop keeps",
@@ -161,6 +163,8 @@ pub struct Tally {
     cycles: [u64; CYCLES.len()],
     left_open: [u64; LEFT_OPEN.len()],
     board: Board,
+    reclaims: [u64; RECLAIMS.len()],
+    waiting: Waiting,
     last_maker: BTreeMap<Record, u8>,
     /// Whether a cycle is open.
     is_open: bool,
@@ -170,6 +174,7 @@ impl Tally {
     /// A fresh pool, of the sizes that a field has said so.
     pub fn begin(&mut self, sizes: Sizes, carries_b: bool) {
         self.board.begin();
+        self.waiting.begin();
         for (times, came) in self.sizes_fields.iter_mut().zip(sizes_fields(sizes, carries_b)) {
             *times += u64::from(came);
         }
@@ -186,6 +191,7 @@ impl Tally {
         }
         self.board.event(before, event, answer, after);
         self.is_open = after.phase != 0;
+        self.waiting.event(before, event, answer, after);
         let phase = usize::from(before.phase);
         for (done, kind) in self.done.iter_mut().zip(KINDS) {
             done[phase] += u64::from(kind == event.kind());
@@ -224,15 +230,13 @@ impl Tally {
         }
         if before.phase == 6 {
             let marked: BTreeSet<Record> = before.changed.iter().filter_map(|link| link.record()).collect();
-            let kept_by = |held: bool, outstanding: bool| {
-                before.candidates.iter().any(|record| {
-                    before.count(*record) == 0
-                        && before.held.contains(record) == held
-                        && marked.contains(record) == outstanding
-                })
+            let kept_by_its_mark = |record: &Record| {
+                before.count(*record) == 0 && before.held.contains(record) && !marked.contains(record)
             };
-            self.situations[4] += u64::from(kept_by(false, true));
-            self.situations[5] += u64::from(kept_by(true, false));
+            self.situations[4] += u64::from(before.candidates.iter().any(kept_by_its_mark));
+        }
+        for (times, came) in self.reclaims.iter_mut().zip(reclaims(before)) {
+            *times += u64::from(came);
         }
     }
 
@@ -242,14 +246,14 @@ impl Tally {
         }
         let Some(record) = made else { return };
         let maker_before = self.last_maker.insert(record, w);
-        self.situations[8] += u64::from(maker_before.is_some_and(|maker| maker != w));
+        self.situations[7] += u64::from(maker_before.is_some_and(|maker| maker != w));
     }
 
     /// The opening of a cycle: what was lost, and which of it is left to loops.
     pub fn opening(&mut self, lost: &BTreeSet<Record>, left: &BTreeSet<Record>, shared: bool) {
-        self.situations[6] += u64::from(left.len() < lost.len());
-        self.situations[7] += u64::from(!left.is_empty());
-        self.situations[9] += u64::from(shared);
+        self.situations[5] += u64::from(left.len() < lost.len());
+        self.situations[6] += u64::from(!left.is_empty());
+        self.situations[8] += u64::from(shared);
     }
 
     /// A cycle closes.
@@ -286,7 +290,10 @@ impl Tally {
         let cycles = self.cycles.iter().copied().zip(CYCLES);
         let left_open = self.left_open.iter().copied().zip(LEFT_OPEN);
         let board = self.board.situations.iter().copied().zip(board::SITUATIONS);
-        makes.chain(wrongs).chain(situations).chain(sizes_fields).chain(cycles).chain(left_open).chain(board)
+        let reclaims = self.reclaims.iter().copied().zip(RECLAIMS);
+        let waiting = self.waiting.situations.iter().copied().zip(waiting::SITUATIONS);
+        let of_events = makes.chain(wrongs).chain(situations).chain(board).chain(reclaims).chain(waiting);
+        of_events.chain(sizes_fields).chain(cycles).chain(left_open)
     }
 
     /// What should have been reached and was not, and what was reached and cannot be.

@@ -1,6 +1,6 @@
 //! Sound pools that no run from a fresh pool reaches: everything that "A sound pool" leaves open is
 //! thrown. Workers share records, marks, makers and flags stand anywhere, free records have links
-//! and marks.
+//! and marks. In phase 6 records wait that have children, and a register may hold them.
 
 use std::collections::{BTreeMap, BTreeSet};
 
@@ -119,8 +119,32 @@ impl Draft {
         pool.phase = self.phase;
         pool.position = self.position;
         pool.closed = random.pick(&[0, 1, 65_534, 65_535, 4711]);
+        if pool.phase == 6 && random.percent(50) {
+            some_are_due(&mut pool, random);
+        }
         count_anew(&mut pool);
         pool
+    }
+}
+
+/// Some records are used candidates, not held, which no link is counted for; an unchanged link of each
+/// holds a record. So those that have a changed link wait with a child, and the others can be freed.
+fn some_are_due(pool: &mut Pool, random: &mut Random) {
+    let sizes = pool.sizes;
+    let some = random.pick(&[5, 30, 100]);
+    for record in sizes.records() {
+        let unchanged: Vec<Link> =
+            sizes.links_of(record).filter(|link| !pool.changed.contains(link)).collect();
+        if unchanged.is_empty() || !random.percent(some) {
+            continue;
+        }
+        pool.used.insert(record);
+        pool.candidates.insert(record);
+        pool.held.remove(&record);
+        pool.values.insert(random.pick(&unchanged), Record(random.between(1, sizes.n)));
+        pool.values.retain(|link, value| *value != record || pool.changed.contains(link));
+        let logged = pool.workers.iter_mut().flat_map(|worker| &mut worker.log);
+        logged.filter(|entry| entry.old == Some(record)).for_each(|entry| entry.old = None);
     }
 }
 

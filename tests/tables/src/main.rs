@@ -45,7 +45,7 @@ struct Part {
     cases: u64,
     run: fn(u64, &mut Reached) -> Result<(), String>,
     /// Whether each kind of event has to have come in each phase with each of its numbers, a make
-    /// upon each of `MAKES`, and each of `WRONGS`.
+    /// upon each of `MAKES`, a step of phase 6 upon each of `RECLAIMS`, and each of `WRONGS`.
     every_event: bool,
     situations: fn() -> Vec<String>,
 }
@@ -58,7 +58,7 @@ const PARTS: [Part; 7] = [
     Part {
         name: "runs",
         words: "runs from a fresh pool",
-        cases: 700,
+        cases: 1000,
         run: run_or_full,
         every_event: true,
         situations: || words(&[FREED, FULL_LOG, FULL_HISTORY, AT_THE_LARGEST]),

@@ -5,6 +5,7 @@ use std::collections::BTreeMap;
 use second::event::Event;
 use second::pool::{Pool, Sizes};
 use second::tally::{makes, wrongs, MAKES, WRONGS};
+use second::waiting::{reclaims, RECLAIMS};
 
 use crate::runs::LARGEST;
 
@@ -32,13 +33,16 @@ pub struct Upon {
     phase: u8,
     /// Of a make, which of `MAKES`.
     makes: Option<[bool; MAKES.len()]>,
+    /// Of a collector step, which of `RECLAIMS`.
+    reclaims: Option<[bool; RECLAIMS.len()]>,
     wrongs: [bool; WRONGS.len()],
 }
 
 impl Upon {
     pub fn of(pool: &Pool, event: Event) -> Upon {
         let makes = matches!(event, Event::Make { .. }).then(|| makes(pool));
-        Upon { phase: pool.phase, makes, wrongs: wrongs(pool, event) }
+        let reclaims = (event == Event::Collect).then(|| reclaims(pool));
+        Upon { phase: pool.phase, makes, reclaims, wrongs: wrongs(pool, event) }
     }
 }
 
@@ -57,7 +61,9 @@ impl Reached {
     pub fn event(&mut self, event: Event, upon: Upon, number: u8) {
         *self.events.entry((kind(event), upon.phase, number)).or_insert(0) += 1;
         let makes = upon.makes.filter(|_| number == 0).unwrap_or_default();
-        let came = MAKES.into_iter().zip(makes).chain(WRONGS.into_iter().zip(upon.wrongs));
+        let reclaims = upon.reclaims.unwrap_or_default();
+        let came = MAKES.into_iter().zip(makes).chain(RECLAIMS.into_iter().zip(reclaims));
+        let came = came.chain(WRONGS.into_iter().zip(upon.wrongs));
         came.filter(|(_, came)| *came).for_each(|(words, _)| self.situation(words));
     }
 
@@ -80,7 +86,8 @@ impl Reached {
     }
 
     /// Each kind in each phase with each of its numbers has to have come, and no other, a make upon
-    /// each of `MAKES`, and each of `WRONGS`; so have the situations.
+    /// each of `MAKES`, a step of phase 6 upon each of `RECLAIMS`, and each of `WRONGS`; so have the
+    /// situations.
     pub fn faults(&self, every_event: bool, situations: &[String]) -> Vec<String> {
         let mut faults = Vec::new();
         for kind in KINDS.into_iter().filter(|_| every_event) {
@@ -97,7 +104,7 @@ impl Reached {
                 faults.push(format!("reached: {kind} in phase {phase} answered {number}"));
             }
         }
-        let upon = MAKES.into_iter().chain(WRONGS).filter(|_| every_event);
+        let upon = MAKES.into_iter().chain(RECLAIMS).chain(WRONGS).filter(|_| every_event);
         for words in situations.iter().map(String::as_str).chain(upon) {
             if !self.situations.contains_key(words) {
                 faults.push(format!("never reached: {words}"));

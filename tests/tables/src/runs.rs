@@ -1,8 +1,7 @@
 //! Runs from a fresh pool, up to the largest sizes of document 01.
 
 use second::event::Event;
-use second::habit::Habit;
-use second::maker::{at_the_limits, up_to};
+use second::maker::{at_the_limits, stretch, up_to};
 use second::pool::Sizes;
 use second::random::Random;
 pub use second::trace::LARGEST_OF_ALL as LARGEST;
@@ -56,18 +55,17 @@ pub fn run(seed: u64, reached: &mut Reached) -> Result<(), String> {
     let mut plans: Vec<Vec<Event>> = vec![Vec::new(); usize::from(sizes.w)];
     let mut done = 0;
     while done < events {
-        let rate = random.pick(&[0, 3, 10, 30, 50, 70, 90, 100]);
-        let habits: Vec<Habit> = (0..3).map(|_| random.pick(&Habit::ALL)).collect();
+        let (rate, habits) = stretch(&mut random);
         for _ in 0..5 + random.below(40) {
             let w = random.below(plans.len());
             if plans[w].is_empty() {
                 plans[w] = random.pick(&habits).plan(&both.second, w as u8, &mut random);
                 plans[w].reverse();
             }
-            let event = match plans[w].pop() {
-                _ if random.percent(5) => any_event(random.below(COLLECT), sizes, &mut random),
-                Some(event) if !random.percent(rate) => event,
-                _ => Event::Collect,
+            let event = match random.below(100) {
+                0..5 => any_event(random.below(COLLECT), sizes, &mut random),
+                _ if random.percent(rate) => Event::Collect,
+                _ => plans[w].pop().unwrap_or(Event::Collect),
             };
             both.event(event, reached).map_err(|told| format!("{sizes:?}, event {}: {told}", done + 1))?;
             done += 1;

@@ -5,7 +5,7 @@ use mathlib.Core.List.{List}
 use borrow.Author.Needs.{needs}
 use lib.ListN.{set}
 use Rattle.rules.specs.Pool.{withRecord}
-use Rattle.tables.specs.Tables.{Tables, putUsed, putCounts, putCandidates, putValues}
+use Rattle.tables.specs.Tables.{Tables, putUsed, putCounts, putCandidates, putValues, putChanged}
 use Rattle.tables.specs.Lie.{poolOf}
 use Rattle.tables.proofs.Counted.{marked-here}
 use Rattle.reclaim.specs.Lent.{freesOn}
@@ -15,8 +15,8 @@ use Rattle.reclaim.proofs.frees.Tie as tie
 
 empties-requires : tie.Need-empties-requires
 empties-requires c κs =
-    let start = c .before .before .before .before .before .before .before in
-    (putUsed (start .args .used .now) (start .pre .0), start .pre .1, start .pre .2)
+    let start = c .before .before .before .before .before .before .before .before in
+    (putUsed (start .args .used .now) (start .pre .0), start .pre .1, start .pre .2 .inside)
 
 record-place-requires : tie.Need-record-place-requires
 record-place-requires c κs = search needs
@@ -40,20 +40,21 @@ same-length-4 : tie.Need-same-length-4
 same-length-4 c = search needs
 
 returns : tie.Need-returns
-returns c t c' pass =
+returns c t c' asked =
     let emptied = c .before .before .before .before .before .before .before .before .before .before .before .before .before .before .before in
     let empties = emptied .empties in
-    let start = emptied .before .before .before .before .before .before .before .before .args in
+    let start = emptied .before .before .before .before .before .before .before .before .before .args in
     let used = start .used .now in
     let a = start .a .0 in
     let place = c .before .before .before .before .before .before .before .before .record-place in
     let off : (marks : List ℕ) → set marks (place .result) 0 ≡ withRecord marks a 0 =
-    λ marks. marked-here marks a (place .result) 0 (pass .some) (place .ensures) in
+    λ marks. marked-here marks a (place .result) 0 (asked .inside .some) (place .ensures) in
     let candidates = empties .last .1 .1 .0 in
-    let rest : Tables = putCounts (empties .last .1 .0) (putValues (empties .last .1 .1 .1 .0) t) in
-    freed-next (start .s) (start .a) (poolOf (start .s) (freesOn (start .used) (start .counts) (start .candidates) (start .values) t) c')
+    let rest : Tables = putCounts (empties .last .1 .0) (putValues (empties .last .1 .1 .1 .0) (putChanged (start .changed .now) t)) in
+    freed-next (start .s) (start .a) (poolOf (start .s) (freesOn (start .used) (start .counts) (start .candidates) (start .values) (start .changed) t) c')
     (putUsed used (putCandidates candidates rest))
-    (empties .ensures (putUsed used t) c' pass)
+    (asked .unchanged)
+    (empties .ensures (putUsed used t) c' (asked .inside))
     ∙ (λ j.
     putUsed (sym (c .before .before .before .before .before .before .set-mark .ensures ∙ off used) j)
     (putCandidates (sym (c .before .before .set-mark2 .ensures ∙ off candidates) j) rest))
