@@ -2,7 +2,8 @@
  *
  *     yuyarisun_number, yuyarisun_words          the numbers that a call answers, and what each of them says
  *     yuyarisun_sizes, YUYARISUN_.._LENGTH       the sizes of a pool, and how long they make each of its tables
- *     yuyarisun_pool, yuyarisun_lay              a pool as a caller keeps it; its tables laid out in one block
+ *     yuyarisun_pool, yuyarisun_lay              a pool as a caller keeps it; its tables laid out in two arrays, of marks and of numbers
+ *     yuyarisun_is_on                            one mark of a table of marks
  *     yuyarisun_pool_make, .._collect            one line for an event on such a pool
  *     yuyarisun_pool_fresh, _sound, _free_records
  *     yuyarisun_pool_events, _trace              many events at once, and a whole trace
@@ -14,10 +15,11 @@
  * Who owns what. The caller owns every table and lends it for the time of a call: the library allocates nothing, frees nothing, keeps no pointer and has
  * no state of its own. Two calls on two pools may so run at once on two threads; two calls on one pool may not.
  *
- * What a caller sees to, since no call can: that a table's pointer is not null, is aligned as a uint16_t is and points to as many numbers as the length
- * beside it says, and that no two tables, and none of the numbers that a call writes, overlap; the same of the bytes, the answers and the cycles' numbers that many
- * events and traces take. All the rest a call sees to: sizes out of range and other lengths (1) and tables in which no sound pool lies (2) are refused, and a refused
- * call changes nothing but puts 0 into its value. Many events and traces stop at a field that is refused, and what was done before it stays done.
+ * What a caller sees to, since no call can: that a table's pointer is not null, is aligned as its type is, a uint16_t or a uint64_t, and points to as many of
+ * these as the length beside it says, and that no two tables, and none of the numbers that a call writes, overlap; the same of the bytes, the answers and the
+ * cycles' numbers that many events and traces take. All the rest a call sees to: sizes out of range and other lengths (1) and tables in which no sound pool
+ * lies (2) are refused, and a refused call changes nothing but puts 0 into its value. Many events and traces stop at a field that is refused, and what was done
+ * before it stays done.
  */
 #ifndef YUYARISUN_H
 #define YUYARISUN_H
@@ -95,23 +97,30 @@ typedef struct yuyarisun_sizes {
 /* S, the number of all links. */
 #define YUYARISUN_ALL_LINKS(n, k, b) ((size_t)(n) * (size_t)(k) + (size_t)(b))
 
-/* How many 16-bit numbers each table has, exactly. Of constant sizes these are constant, so that an array can be declared with them. */
-#define YUYARISUN_USED_LENGTH(n, k, w, r, b) ((size_t)(n))
+/* How many 64-bit words so many marks take. */
+#define YUYARISUN_WORDS_FOR(marks) (((size_t)(marks) + 63) / 64)
+
+/* How long each table is, exactly: used, held, candidates and changed in 64-bit words, all others in 16-bit numbers. Of constant sizes these are constant, so
+ * that an array can be declared with them. */
+#define YUYARISUN_USED_LENGTH(n, k, w, r, b) YUYARISUN_WORDS_FOR(n)
 #define YUYARISUN_COUNTS_LENGTH(n, k, w, r, b) ((size_t)(n))
-#define YUYARISUN_HELD_LENGTH(n, k, w, r, b) ((size_t)(n))
-#define YUYARISUN_CANDIDATES_LENGTH(n, k, w, r, b) ((size_t)(n))
+#define YUYARISUN_HELD_LENGTH(n, k, w, r, b) YUYARISUN_WORDS_FOR(n)
+#define YUYARISUN_CANDIDATES_LENGTH(n, k, w, r, b) YUYARISUN_WORDS_FOR(n)
 #define YUYARISUN_MAKERS_LENGTH(n, k, w, r, b) ((size_t)(n))
 #define YUYARISUN_VALUES_LENGTH(n, k, w, r, b) YUYARISUN_ALL_LINKS(n, k, b)
-#define YUYARISUN_CHANGED_LENGTH(n, k, w, r, b) YUYARISUN_ALL_LINKS(n, k, b)
+#define YUYARISUN_CHANGED_LENGTH(n, k, w, r, b) YUYARISUN_WORDS_FOR(YUYARISUN_ALL_LINKS(n, k, b))
 #define YUYARISUN_REGISTERS_LENGTH(n, k, w, r, b) ((size_t)(w) * (size_t)(r) + 1)
 #define YUYARISUN_SNOOPS_LENGTH(n, k, w, r, b) ((size_t)(w))
 #define YUYARISUN_LOGS_LENGTH(n, k, w, r, b) ((size_t)(w) * 2 * YUYARISUN_ALL_LINKS(n, k, b))
 #define YUYARISUN_HISTORY_LENGTH(n, k, w, r, b) (2 * YUYARISUN_ALL_LINKS(n, k, b))
 #define YUYARISUN_LENGTHS_LENGTH(n, k, w, r, b) ((size_t)(w) + 1)
 
-/* All twelve together: 169,426 numbers at the largest sizes. */
-#define YUYARISUN_TOTAL_LENGTH(n, k, w, r, b)                                                                                                                  \
-    (5 * (size_t)(n) + 4 * YUYARISUN_ALL_LINKS(n, k, b) + (size_t)(w) * (2 * YUYARISUN_ALL_LINKS(n, k, b) + (size_t)(r) + 2) + 2)
+/* The four tables of marks together, in 64-bit words: 177 at the largest sizes. */
+#define YUYARISUN_MARKS_LENGTH(n, k, w, r, b) (3 * YUYARISUN_WORDS_FOR(n) + YUYARISUN_WORDS_FOR(YUYARISUN_ALL_LINKS(n, k, b)))
+
+/* The eight others together, in 16-bit numbers: 158,146 at the largest sizes. */
+#define YUYARISUN_NUMBERS_LENGTH(n, k, w, r, b)                                                                                                                \
+    (2 * (size_t)(n) + 3 * YUYARISUN_ALL_LINKS(n, k, b) + (size_t)(w) * (2 * YUYARISUN_ALL_LINKS(n, k, b) + (size_t)(r) + 2) + 2)
 
 static inline bool yuyarisun_sizes_in_range(yuyarisun_sizes s)
 {
@@ -127,23 +136,37 @@ typedef struct yuyarisun_table {
     size_t length;
 } yuyarisun_table;
 
+/* A lent table of marks: where its words are, and how many. The lowest number has the lowest bit: the mark of record a is bit (a - 1) % 64 of word (a - 1) /
+ * 64, that of link l is bit l % 64 of word l / 64. A bit that is 1 is a mark that is on. The bits of the last word behind the last record's or the last link's
+ * are 0: with one of them at 1 the pool is not sound (2). */
+typedef struct yuyarisun_marks {
+    uint64_t *words;
+    size_t length;
+} yuyarisun_marks;
+
+/* Whether the mark at a place is on; the mark of record a is at a - 1, that of link l at l. */
+static inline bool yuyarisun_is_on(yuyarisun_marks marks, size_t place)
+{
+    return (marks.words[place / 64] >> (place % 64) & 1) == 1;
+}
+
 /* The collector's own record. Each call takes it and moves it on. A cycle opens with the step out of phase 0 and closes with the step back to it, which counts
  * `closed` up. */
 typedef struct yuyarisun_collector {
     uint16_t phase, position, closed;
 } yuyarisun_collector;
 
-/* Everything that a call is lent. The caller fills it in, by yuyarisun_lay or by hand; a pool put away and taken up again is the twelve tables' numbers, the
- * sizes and the collector's record. */
+/* Everything that a call is lent. The caller fills it in, by yuyarisun_lay or by hand; a pool put away and taken up again is the twelve tables' words and
+ * numbers, the sizes and the collector's record. */
 typedef struct yuyarisun_pool {
     yuyarisun_sizes sizes;
-    yuyarisun_table used;       /* of record a at a - 1: 1 if it is used, 0 if it is free */
+    yuyarisun_marks used;       /* of record a at a - 1: on if it is used, off if it is free */
     yuyarisun_table counts;     /* of record a at a - 1: its count */
-    yuyarisun_table held;       /* of record a at a - 1: its held mark, 0 or 1 */
-    yuyarisun_table candidates; /* of record a at a - 1: its candidate mark, 0 or 1 */
+    yuyarisun_marks held;       /* of record a at a - 1: its held mark */
+    yuyarisun_marks candidates; /* of record a at a - 1: its candidate mark */
     yuyarisun_table makers;     /* of record a at a - 1: the worker that made it + 1, or 0 */
     yuyarisun_table values;     /* of link l at l: the record that it leads to, or 0; link f of record a is (a - 1) x k + f, board entry e is n x k + e */
-    yuyarisun_table changed;    /* of link l at l: its changed mark, 0 or 1 */
+    yuyarisun_marks changed;    /* of link l at l: its changed mark */
     yuyarisun_table registers;  /* register r of worker w at w x (registers per worker) + r: a record, or 0; behind all of them the last made number, or 0 */
     yuyarisun_table snoops;     /* of worker w at w: its snoop flag, 0 or 1 */
     yuyarisun_table logs;       /* entry i of worker w at w x 2S + 2i: a link, then the value that was overwritten first */
@@ -158,7 +181,7 @@ typedef struct yuyarisun_answer {
     uint16_t value;
 } yuyarisun_answer;
 
-/* The next `length` numbers of a block; `at` moves past them. */
+/* The next `length` numbers of an array; `at` moves past them. */
 static inline yuyarisun_table yuyarisun_part(uint16_t **at, size_t length)
 {
     yuyarisun_table part;
@@ -168,37 +191,50 @@ static inline yuyarisun_table yuyarisun_part(uint16_t **at, size_t length)
     return part;
 }
 
-/* Lays the twelve tables out in a block of the caller's, one after another, and puts the collector's record to 0. The block has room for at least
- * YUYARISUN_TOTAL_LENGTH(n, k, w, r, b) numbers, stays the caller's and has to outlive the pool. What stands in it stays: yuyarisun_pool_fresh comes next,
- * or numbers that were put away. Answers 1 and leaves the pool as it was if a size is out of its range or the block is too short, else 0. */
-static inline uint16_t yuyarisun_lay(yuyarisun_pool *pool, yuyarisun_sizes sizes, uint16_t *block, size_t block_length)
+/* The same of the words of marks. */
+static inline yuyarisun_marks yuyarisun_part_of_marks(uint64_t **at, size_t length)
+{
+    yuyarisun_marks part;
+    part.words = *at;
+    part.length = length;
+    *at += length;
+    return part;
+}
+
+/* Lays the tables out in two arrays of the caller's, one after another: the four of marks in `marks`, the eight others in `numbers`; and puts the collector's
+ * record to 0. The arrays have room for at least YUYARISUN_MARKS_LENGTH(n, k, w, r, b) words and YUYARISUN_NUMBERS_LENGTH(n, k, w, r, b) numbers, stay the
+ * caller's and have to outlive the pool. An array of its type is aligned as it has to be; in one stretch of memory from malloc the words come first and the
+ * numbers behind them, and both are. What stands in the arrays stays: yuyarisun_pool_fresh comes next, or tables that were put away. Answers 1 and leaves the
+ * pool as it was if a size is out of its range or an array is too short, else 0. */
+static inline uint16_t yuyarisun_lay(yuyarisun_pool *pool, yuyarisun_sizes sizes, uint64_t *marks, size_t marks_length, uint16_t *numbers,
+                                     size_t numbers_length)
 {
     const size_t n = sizes.n, k = sizes.k, w = sizes.w, r = sizes.r, b = sizes.b;
-    if (!yuyarisun_sizes_in_range(sizes) || block_length < YUYARISUN_TOTAL_LENGTH(n, k, w, r, b))
+    if (!yuyarisun_sizes_in_range(sizes) || marks_length < YUYARISUN_MARKS_LENGTH(n, k, w, r, b) || numbers_length < YUYARISUN_NUMBERS_LENGTH(n, k, w, r, b))
         return YUYARISUN_WRONG_SIZE;
     pool->sizes = sizes;
-    pool->used = yuyarisun_part(&block, YUYARISUN_USED_LENGTH(n, k, w, r, b));
-    pool->counts = yuyarisun_part(&block, YUYARISUN_COUNTS_LENGTH(n, k, w, r, b));
-    pool->held = yuyarisun_part(&block, YUYARISUN_HELD_LENGTH(n, k, w, r, b));
-    pool->candidates = yuyarisun_part(&block, YUYARISUN_CANDIDATES_LENGTH(n, k, w, r, b));
-    pool->makers = yuyarisun_part(&block, YUYARISUN_MAKERS_LENGTH(n, k, w, r, b));
-    pool->values = yuyarisun_part(&block, YUYARISUN_VALUES_LENGTH(n, k, w, r, b));
-    pool->changed = yuyarisun_part(&block, YUYARISUN_CHANGED_LENGTH(n, k, w, r, b));
-    pool->registers = yuyarisun_part(&block, YUYARISUN_REGISTERS_LENGTH(n, k, w, r, b));
-    pool->snoops = yuyarisun_part(&block, YUYARISUN_SNOOPS_LENGTH(n, k, w, r, b));
-    pool->logs = yuyarisun_part(&block, YUYARISUN_LOGS_LENGTH(n, k, w, r, b));
-    pool->history = yuyarisun_part(&block, YUYARISUN_HISTORY_LENGTH(n, k, w, r, b));
-    pool->lengths = yuyarisun_part(&block, YUYARISUN_LENGTHS_LENGTH(n, k, w, r, b));
+    pool->used = yuyarisun_part_of_marks(&marks, YUYARISUN_USED_LENGTH(n, k, w, r, b));
+    pool->held = yuyarisun_part_of_marks(&marks, YUYARISUN_HELD_LENGTH(n, k, w, r, b));
+    pool->candidates = yuyarisun_part_of_marks(&marks, YUYARISUN_CANDIDATES_LENGTH(n, k, w, r, b));
+    pool->changed = yuyarisun_part_of_marks(&marks, YUYARISUN_CHANGED_LENGTH(n, k, w, r, b));
+    pool->counts = yuyarisun_part(&numbers, YUYARISUN_COUNTS_LENGTH(n, k, w, r, b));
+    pool->makers = yuyarisun_part(&numbers, YUYARISUN_MAKERS_LENGTH(n, k, w, r, b));
+    pool->values = yuyarisun_part(&numbers, YUYARISUN_VALUES_LENGTH(n, k, w, r, b));
+    pool->registers = yuyarisun_part(&numbers, YUYARISUN_REGISTERS_LENGTH(n, k, w, r, b));
+    pool->snoops = yuyarisun_part(&numbers, YUYARISUN_SNOOPS_LENGTH(n, k, w, r, b));
+    pool->logs = yuyarisun_part(&numbers, YUYARISUN_LOGS_LENGTH(n, k, w, r, b));
+    pool->history = yuyarisun_part(&numbers, YUYARISUN_HISTORY_LENGTH(n, k, w, r, b));
+    pool->lengths = yuyarisun_part(&numbers, YUYARISUN_LENGTHS_LENGTH(n, k, w, r, b));
     pool->collector.phase = pool->collector.position = pool->collector.closed = 0;
     return YUYARISUN_DONE;
 }
 
 /* ---- The calls as the library has them ---- */
 
-/* What every call is lent to write: the twelve tables, each a pointer and how many numbers it points to; the collector's record. */
+/* What every call is lent to write: the twelve tables, each a pointer and how many words or numbers it points to; the collector's record. */
 #define YUYARISUN_LENT_TABLES                                                                                                                                  \
-    uint16_t *used, size_t used_length, uint16_t *counts, size_t counts_length, uint16_t *held, size_t held_length, uint16_t *candidates,                      \
-        size_t candidates_length, uint16_t *makers, size_t makers_length, uint16_t *values, size_t values_length, uint16_t *changed, size_t changed_length,    \
+    uint64_t *used, size_t used_length, uint16_t *counts, size_t counts_length, uint64_t *held, size_t held_length, uint64_t *candidates,                      \
+        size_t candidates_length, uint16_t *makers, size_t makers_length, uint16_t *values, size_t values_length, uint64_t *changed, size_t changed_length,    \
         uint16_t *registers, size_t registers_length, uint16_t *snoops, size_t snoops_length, uint16_t *logs, size_t logs_length, uint16_t *history,           \
         size_t history_length, uint16_t *lengths, size_t lengths_length, uint16_t *phase, uint16_t *position, uint16_t *closed
 
@@ -207,9 +243,9 @@ static inline uint16_t yuyarisun_lay(yuyarisun_pool *pool, yuyarisun_sizes sizes
 
 /* The same, to read alone. */
 #define YUYARISUN_LENT_TO_READ                                                                                                                                 \
-    uint16_t n, uint16_t k, uint16_t w, uint16_t r, uint16_t b, const uint16_t *used, size_t used_length, const uint16_t *counts, size_t counts_length,        \
-        const uint16_t *held, size_t held_length, const uint16_t *candidates, size_t candidates_length, const uint16_t *makers, size_t makers_length,          \
-        const uint16_t *values, size_t values_length, const uint16_t *changed, size_t changed_length, const uint16_t *registers, size_t registers_length,      \
+    uint16_t n, uint16_t k, uint16_t w, uint16_t r, uint16_t b, const uint64_t *used, size_t used_length, const uint16_t *counts, size_t counts_length,        \
+        const uint64_t *held, size_t held_length, const uint64_t *candidates, size_t candidates_length, const uint16_t *makers, size_t makers_length,          \
+        const uint16_t *values, size_t values_length, const uint64_t *changed, size_t changed_length, const uint16_t *registers, size_t registers_length,      \
         const uint16_t *snoops, size_t snoops_length, const uint16_t *logs, size_t logs_length, const uint16_t *history, size_t history_length,                \
         const uint16_t *lengths, size_t lengths_length, uint16_t phase, uint16_t position, uint16_t closed
 
@@ -246,8 +282,9 @@ uint16_t yuyarisun_fresh(YUYARISUN_LENT);
 /* Whether the sizes are in range, every length is exact and the pool is sound. */
 bool yuyarisun_sound(YUYARISUN_LENT_TO_READ);
 
-/* How many records are free: how many of the used marks are 0, of a table of any length. */
-size_t yuyarisun_free_records(const uint16_t *used, size_t used_length);
+/* How many of n records are free: n less the bits that are 1 in these words, 0 where there are more of them. It takes however many words it is lent, and the
+ * bits behind the last record's count as any others: of a sound pool's table they are 0, and the answer is the number of its free records. */
+size_t yuyarisun_free_records(uint16_t n, const uint64_t *used, size_t used_length);
 
 /* Many events at once, on a pool that is looked through once: event fields one after another, as a trace has them, each with the step number of the one before
  * plus one; the first has *step + 1. Each is done exactly as its own call would do it. Answers 0 if every byte was taken. 1 and 2 refuse the call: nothing is
@@ -295,9 +332,9 @@ uint16_t yuyarisun_join(const uint8_t *parts, size_t parts_length, const uint64_
 
 /* A pool's tables, its sizes and the collector's record, as a call is lent them. */
 #define YUYARISUN_TABLES_OF(pool)                                                                                                                              \
-    (pool)->used.numbers, (pool)->used.length, (pool)->counts.numbers, (pool)->counts.length, (pool)->held.numbers, (pool)->held.length,                       \
-        (pool)->candidates.numbers, (pool)->candidates.length, (pool)->makers.numbers, (pool)->makers.length, (pool)->values.numbers, (pool)->values.length,   \
-        (pool)->changed.numbers, (pool)->changed.length, (pool)->registers.numbers, (pool)->registers.length, (pool)->snoops.numbers, (pool)->snoops.length,   \
+    (pool)->used.words, (pool)->used.length, (pool)->counts.numbers, (pool)->counts.length, (pool)->held.words, (pool)->held.length,                           \
+        (pool)->candidates.words, (pool)->candidates.length, (pool)->makers.numbers, (pool)->makers.length, (pool)->values.numbers, (pool)->values.length,     \
+        (pool)->changed.words, (pool)->changed.length, (pool)->registers.numbers, (pool)->registers.length, (pool)->snoops.numbers, (pool)->snoops.length,     \
         (pool)->logs.numbers, (pool)->logs.length, (pool)->history.numbers, (pool)->history.length, (pool)->lengths.numbers, (pool)->lengths.length
 
 #define YUYARISUN_SIZES_OF(pool) (pool)->sizes.n, (pool)->sizes.k, (pool)->sizes.w, (pool)->sizes.r, (pool)->sizes.b
@@ -379,7 +416,7 @@ static inline bool yuyarisun_pool_sound(const yuyarisun_pool *pool)
 
 static inline size_t yuyarisun_pool_free_records(const yuyarisun_pool *pool)
 {
-    return yuyarisun_free_records(pool->used.numbers, pool->used.length);
+    return yuyarisun_free_records(pool->sizes.n, pool->used.words, pool->used.length);
 }
 
 /* ---- Many events, and whole traces ---- */

@@ -2,6 +2,7 @@
  * looked at under its own name; then many events at once, a whole trace, and parts of one. For C99 and C++; tests/library builds and runs it. It prints nothing,
  * or the line that does not hold. */
 #include <stdio.h>
+#include <stdlib.h>
 #include <string.h>
 
 #include "yuyarisun.h"
@@ -15,8 +16,30 @@
     } while (0)
 
 enum { N = 4, K = 2, W = 2, R = 2, B = 2 };
-static uint16_t block[YUYARISUN_TOTAL_LENGTH(N, K, W, R, B)];
-static uint16_t largest[YUYARISUN_TOTAL_LENGTH(1024, 8, 8, 16, 16)];
+static uint64_t marks[YUYARISUN_MARKS_LENGTH(N, K, W, R, B)];
+static uint16_t numbers[YUYARISUN_NUMBERS_LENGTH(N, K, W, R, B)];
+static uint64_t largest_marks[YUYARISUN_MARKS_LENGTH(1024, 8, 8, 16, 16)];
+static uint16_t largest_numbers[YUYARISUN_NUMBERS_LENGTH(1024, 8, 8, 16, 16)];
+
+#define LENGTH(array) (sizeof(array) / sizeof *(array))
+
+/* Lays a pool out in the small arrays, or in the large ones. */
+static uint16_t lay(yuyarisun_pool *pool, yuyarisun_sizes sizes)
+{
+    return yuyarisun_lay(pool, sizes, marks, LENGTH(marks), numbers, LENGTH(numbers));
+}
+
+static uint16_t lay_large(yuyarisun_pool *pool, yuyarisun_sizes sizes)
+{
+    return yuyarisun_lay(pool, sizes, largest_marks, LENGTH(largest_marks), largest_numbers, LENGTH(largest_numbers));
+}
+
+/* Anything in both small arrays. */
+static void spoil(void)
+{
+    memset(marks, 0xff, sizeof marks);
+    memset(numbers, 0xff, sizeof numbers);
+}
 
 /* The words of each number, and of none. */
 static int words(void)
@@ -35,16 +58,19 @@ static int words(void)
     return 0;
 }
 
-/* The tables fill the block, and sizes or blocks that are wrong are refused. */
+/* The tables fill the arrays, one behind the other, and sizes or arrays that are wrong are refused. */
 static int laid_out(void)
 {
     yuyarisun_pool pool;
     yuyarisun_sizes sizes = {N, K, W, R, B};
-    size_t total = sizeof block / sizeof *block;
-    HOLD(sizeof largest / sizeof *largest == 169426);
-    HOLD(yuyarisun_lay(&pool, sizes, block, total - 1) == YUYARISUN_WRONG_SIZE);
-    HOLD(yuyarisun_lay(&pool, sizes, block, total) == YUYARISUN_DONE);
-    HOLD(pool.used.numbers == block && pool.lengths.numbers + pool.lengths.length == block + total);
+    HOLD(LENGTH(largest_marks) == 177 && LENGTH(largest_numbers) == 158146);
+    HOLD(yuyarisun_lay(&pool, sizes, marks, LENGTH(marks) - 1, numbers, LENGTH(numbers)) == YUYARISUN_WRONG_SIZE);
+    HOLD(yuyarisun_lay(&pool, sizes, marks, LENGTH(marks), numbers, LENGTH(numbers) - 1) == YUYARISUN_WRONG_SIZE);
+    HOLD(lay(&pool, sizes) == YUYARISUN_DONE);
+    HOLD(pool.used.words == marks && pool.held.words == pool.used.words + 1 && pool.candidates.words == pool.held.words + 1);
+    HOLD(pool.changed.words == pool.candidates.words + 1 && pool.changed.words + pool.changed.length == marks + LENGTH(marks));
+    HOLD(pool.counts.numbers == numbers && pool.makers.numbers == numbers + N && pool.values.numbers == numbers + 2 * N);
+    HOLD(pool.lengths.numbers + pool.lengths.length == numbers + LENGTH(numbers));
     pool.logs.length--;
     HOLD(yuyarisun_pool_fresh(&pool) == YUYARISUN_WRONG_SIZE);
     HOLD(yuyarisun_pool_collect(&pool).number == YUYARISUN_WRONG_SIZE);
@@ -52,12 +78,30 @@ static int laid_out(void)
         const uint16_t past[5] = {1025, 9, 9, 17, 17};
         yuyarisun_sizes wrong = {1024, 8, 8, 16, 16};
         uint16_t *each[5] = {&wrong.n, &wrong.k, &wrong.w, &wrong.r, &wrong.b};
-        HOLD(yuyarisun_lay(&pool, wrong, largest, sizeof largest / sizeof *largest) == YUYARISUN_DONE);
+        HOLD(lay_large(&pool, wrong) == YUYARISUN_DONE && pool.changed.length == 129 && pool.used.length == 16);
         HOLD(yuyarisun_pool_fresh(&pool) == YUYARISUN_DONE && yuyarisun_pool_sound(&pool) && yuyarisun_pool_free_records(&pool) == 1024);
         *each[size] = past[size];
-        HOLD(yuyarisun_lay(&pool, wrong, largest, SIZE_MAX) == YUYARISUN_WRONG_SIZE);
+        HOLD(yuyarisun_lay(&pool, wrong, largest_marks, SIZE_MAX, largest_numbers, SIZE_MAX) == YUYARISUN_WRONG_SIZE);
         *each[size] = 0;
-        HOLD(yuyarisun_lay(&pool, wrong, largest, SIZE_MAX) == (size < 4 ? YUYARISUN_WRONG_SIZE : YUYARISUN_DONE));
+        HOLD(yuyarisun_lay(&pool, wrong, largest_marks, SIZE_MAX, largest_numbers, SIZE_MAX) == (size < 4 ? YUYARISUN_WRONG_SIZE : YUYARISUN_DONE));
+    }
+    return 0;
+}
+
+/* Both kinds in one stretch of memory, words first: each is aligned as its type is. */
+static int in_one_stretch(void)
+{
+    for (uint16_t n = 1; n <= 130; n++) {
+        yuyarisun_pool pool;
+        yuyarisun_sizes sizes = {n, 1, 1, 1, (uint16_t)(n % 3)};
+        const size_t words = YUYARISUN_MARKS_LENGTH(n, 1, 1, 1, n % 3), others = YUYARISUN_NUMBERS_LENGTH(n, 1, 1, 1, n % 3);
+        uint64_t *stretch = (uint64_t *)malloc(words * sizeof(uint64_t) + others * sizeof(uint16_t));
+        HOLD(stretch != NULL && yuyarisun_lay(&pool, sizes, stretch, words, (uint16_t *)(stretch + words), others) == YUYARISUN_DONE);
+        HOLD((uintptr_t)pool.used.words % sizeof(uint64_t) == 0 && (uintptr_t)pool.changed.words % sizeof(uint64_t) == 0);
+        HOLD((uintptr_t)pool.counts.numbers % sizeof(uint16_t) == 0 && (uintptr_t)pool.lengths.numbers % sizeof(uint16_t) == 0);
+        HOLD((void *)(pool.changed.words + pool.changed.length) == (void *)pool.counts.numbers);
+        HOLD(yuyarisun_pool_fresh(&pool) == YUYARISUN_DONE && yuyarisun_pool_sound(&pool) && yuyarisun_pool_free_records(&pool) == n);
+        free(stretch);
     }
     return 0;
 }
@@ -73,17 +117,17 @@ static int named(void)
     yuyarisun_pool pool;
     yuyarisun_sizes sizes = {N, K, W, R, B};
     const size_t log = 1 * 2 * YUYARISUN_ALL_LINKS(N, K, B);
-    HOLD(yuyarisun_lay(&pool, sizes, block, sizeof block / sizeof *block) == YUYARISUN_DONE);
-    memset(block, 0xff, sizeof block);
+    HOLD(lay(&pool, sizes) == YUYARISUN_DONE);
+    spoil();
     HOLD(!yuyarisun_pool_sound(&pool) && yuyarisun_pool_collect(&pool).number == YUYARISUN_NOT_SOUND);
     HOLD(yuyarisun_pool_fresh(&pool) == YUYARISUN_DONE && yuyarisun_pool_sound(&pool));
 
     HOLD(done(yuyarisun_pool_make(&pool, 1, 0), 1) && done(yuyarisun_pool_make(&pool, 1, 1), 2));
-    HOLD(pool.used.numbers[0] == 1 && pool.used.numbers[1] == 1 && pool.used.numbers[2] == 0);
+    HOLD(pool.used.words[0] == 3 && yuyarisun_is_on(pool.used, 0) && yuyarisun_is_on(pool.used, 1) && !yuyarisun_is_on(pool.used, 2));
     HOLD(pool.makers.numbers[0] == 2 && pool.makers.numbers[1] == 2);
     HOLD(pool.registers.numbers[1 * R + 0] == 1 && pool.registers.numbers[1 * R + 1] == 2 && pool.registers.numbers[W * R] == 2);
     HOLD(done(yuyarisun_pool_store(&pool, 1, 0, 1, 1), 0));
-    HOLD(pool.values.numbers[1] == 2 && pool.changed.numbers[1] == 1 && pool.lengths.numbers[1] == 1);
+    HOLD(pool.values.numbers[1] == 2 && pool.changed.words[0] == 2 && pool.lengths.numbers[1] == 1);
     HOLD(pool.logs.numbers[log] == 1 && pool.logs.numbers[log + 1] == 0);
     HOLD(done(yuyarisun_pool_store(&pool, 1, 1, 0, 0), 0) && done(yuyarisun_pool_store(&pool, 1, 1, 0, 0), 1));
     HOLD(pool.logs.numbers[log + 2] == 2 && pool.lengths.numbers[1] == 2);
@@ -93,13 +137,13 @@ static int named(void)
     for (int step = 0; step < 3; step++)
         HOLD(done(yuyarisun_pool_collect(&pool), 0));
     HOLD(pool.collector.phase == 2 && pool.snoops.numbers[0] == 1 && pool.snoops.numbers[1] == 1);
-    HOLD(done(yuyarisun_pool_store(&pool, 1, 0, 1, 0), 0) && pool.held.numbers[1] == 1);
+    HOLD(done(yuyarisun_pool_store(&pool, 1, 0, 1, 0), 0) && pool.held.words[0] == 2);
     for (int step = 0; step < 2; step++)
         HOLD(done(yuyarisun_pool_collect(&pool), 0));
     HOLD(pool.collector.phase == 3 && pool.lengths.numbers[1] == 0 && pool.lengths.numbers[2] == 3);
     HOLD(pool.history.numbers[0] == 1 && pool.history.numbers[2] == 2 && pool.history.numbers[4] == 3 && pool.logs.numbers[log] == 0);
-    HOLD(pool.candidates.numbers[0] == 1 && pool.candidates.numbers[1] == 1 && pool.makers.numbers[0] == 0);
-    HOLD(done(yuyarisun_pool_collect(&pool), 0) && pool.collector.position == 1 && pool.changed.numbers[1] == 0);
+    HOLD(pool.candidates.words[0] == 3 && pool.makers.numbers[0] == 0);
+    HOLD(done(yuyarisun_pool_collect(&pool), 0) && pool.collector.position == 1 && !yuyarisun_is_on(pool.changed, 1));
     while (pool.collector.phase < 6)
         HOLD(done(yuyarisun_pool_collect(&pool), 0));
     HOLD(pool.counts.numbers[0] == 1 && pool.counts.numbers[1] == 2 && pool.snoops.numbers[1] == 0 && pool.lengths.numbers[2] == 0);
@@ -115,10 +159,10 @@ static int board(void)
 {
     yuyarisun_pool pool;
     yuyarisun_sizes sizes = {N, K, W, R, B};
-    HOLD(yuyarisun_lay(&pool, sizes, block, sizeof block / sizeof *block) == YUYARISUN_DONE && yuyarisun_pool_fresh(&pool) == YUYARISUN_DONE);
-    HOLD(pool.values.length == 10 && pool.changed.length == 10 && pool.history.length == 20 && pool.logs.length == 40);
+    HOLD(lay(&pool, sizes) == YUYARISUN_DONE && yuyarisun_pool_fresh(&pool) == YUYARISUN_DONE);
+    HOLD(pool.values.length == 10 && pool.changed.length == 1 && pool.history.length == 20 && pool.logs.length == 40);
     HOLD(done(yuyarisun_pool_make(&pool, 0, 0), 1) && done(yuyarisun_pool_post(&pool, 0, 1, 0), 0));
-    HOLD(pool.values.numbers[9] == 1 && pool.changed.numbers[9] == 1 && pool.logs.numbers[0] == 9 && pool.logs.numbers[1] == 0);
+    HOLD(pool.values.numbers[9] == 1 && pool.changed.words[0] == 512 && pool.logs.numbers[0] == 9 && pool.logs.numbers[1] == 0);
     HOLD(done(yuyarisun_pool_look(&pool, 1, 0, 0), 0) && done(yuyarisun_pool_look(&pool, 1, 0, 1), 1) && pool.registers.numbers[1 * R + 0] == 1);
     HOLD(done(yuyarisun_pool_post(&pool, 1, 1, 1), 1) && pool.values.numbers[9] == 0 && pool.lengths.numbers[1] == 0);
     HOLD(done(yuyarisun_pool_drop(&pool, 0, 0), 0));
@@ -127,6 +171,43 @@ static int board(void)
     HOLD(yuyarisun_pool_sound(&pool) && yuyarisun_pool_free_records(&pool) == 3);
     HOLD(yuyarisun_pool_look(&pool, 2, 2, 2).number == YUYARISUN_NO_SUCH_WORKER && yuyarisun_pool_post(&pool, 0, 2, 2).number == YUYARISUN_NO_SUCH_REGISTER);
     HOLD(yuyarisun_pool_look(&pool, 0, 0, 2).number == YUYARISUN_NO_SUCH_LINK && yuyarisun_pool_post(&pool, 0, 2, 0).number == YUYARISUN_NO_SUCH_LINK);
+    return 0;
+}
+
+/* 65 records: record 64 has the highest bit of the first word, and record 65 the lowest of the second. Each bit behind it, and behind that of link 129, makes the
+ * pool unsound. */
+static int packed(void)
+{
+    yuyarisun_pool pool;
+    yuyarisun_sizes sizes = {65, 2, 1, 1, 0};
+    HOLD(lay_large(&pool, sizes) == YUYARISUN_DONE && pool.used.length == 2 && pool.held.length == 2);
+    HOLD(pool.candidates.length == 2 && pool.changed.length == 3);
+    HOLD(yuyarisun_pool_fresh(&pool) == YUYARISUN_DONE);
+    for (uint16_t a = 1; a <= 65; a++) {
+        HOLD(done(yuyarisun_pool_make(&pool, 0, 0), a) && yuyarisun_is_on(pool.used, a - 1u) && (a == 65 || !yuyarisun_is_on(pool.used, a)));
+        HOLD(yuyarisun_pool_free_records(&pool) == 65u - a);
+    }
+    HOLD(pool.used.words[0] == UINT64_MAX && pool.used.words[1] == 1);
+    HOLD(yuyarisun_pool_make(&pool, 0, 0).number == YUYARISUN_NONE_FREE);
+    HOLD(done(yuyarisun_pool_store(&pool, 0, 0, 1, 0), 0) && pool.changed.words[2] == 2 && yuyarisun_is_on(pool.changed, 129));
+
+    const yuyarisun_marks tables[4] = {pool.used, pool.held, pool.candidates, pool.changed};
+    for (int table = 0; table < 4; table++) {
+        const size_t last = tables[table].length - 1;
+        for (unsigned bit = table < 3 ? 1 : 2; bit < 64; bit++) {
+            const uint64_t before = tables[table].words[last];
+            HOLD(yuyarisun_pool_sound(&pool));
+            tables[table].words[last] |= (uint64_t)1 << bit;
+            HOLD(!yuyarisun_pool_sound(&pool) && yuyarisun_pool_drop(&pool, 0, 0).number == YUYARISUN_NOT_SOUND);
+            HOLD(tables[table].words[last] == (before | (uint64_t)1 << bit));
+            tables[table].words[last] = before;
+        }
+    }
+
+    /* The free records are n less the ones, whatever words these are. */
+    const uint64_t words[2] = {7, UINT64_MAX};
+    HOLD(yuyarisun_free_records(65, words, 1) == 62 && yuyarisun_free_records(70, words, 2) == 3 && yuyarisun_free_records(2, words, 1) == 0);
+    HOLD(yuyarisun_free_records(1024, words, 0) == 1024 && yuyarisun_free_records(65, words, 2) == 0);
     return 0;
 }
 
@@ -162,7 +243,7 @@ static int many(void)
 
     yuyarisun_pool pool;
     yuyarisun_sizes sizes = {N, K, W, R, B};
-    HOLD(yuyarisun_lay(&pool, sizes, block, sizeof block / sizeof *block) == YUYARISUN_DONE && yuyarisun_pool_fresh(&pool) == YUYARISUN_DONE);
+    HOLD(lay(&pool, sizes) == YUYARISUN_DONE && yuyarisun_pool_fresh(&pool) == YUYARISUN_DONE);
     memset(answers, 0xff, sizeof answers);
     yuyarisun_events_answer all = yuyarisun_pool_events(&pool, bytes, length, &step, answers, sizeof answers / sizeof *answers);
     HOLD(all.number == YUYARISUN_WRONG_STEP && all.place == 0 && all.events == 0 && step == 0x01020304 && answers[0] == 0xffff);
@@ -182,7 +263,7 @@ static int many(void)
     pool.lengths.length--;
     HOLD(yuyarisun_pool_events(&pool, bytes, 7, &step, NULL, 0).number == YUYARISUN_WRONG_SIZE);
     pool.lengths.length++;
-    pool.used.numbers[0] = 2;
+    pool.used.words[0] |= (uint64_t)1 << N; /* behind the last record's bit */
     all = yuyarisun_pool_events(&pool, bytes, 7, &step, NULL, 0);
     HOLD(all.number == YUYARISUN_NOT_SOUND && all.place == 0 && all.events == 0 && step == 0x0102030c);
     return 0;
@@ -206,8 +287,8 @@ static int traced(void)
     yuyarisun_sizes sizes = yuyarisun_sizes_of_trace(trace, length);
     HOLD(sizes.n == 2 && sizes.k == 1 && sizes.w == 1 && sizes.r == 1 && sizes.b == 0);
     HOLD(yuyarisun_sizes_of_trace(trace, 10).n == 0 && yuyarisun_sizes_of_trace(NULL, 0).n == 0 && yuyarisun_sizes_of_trace(trace + 11, length - 11).n == 0);
-    HOLD(yuyarisun_lay(&pool, sizes, block, sizeof block / sizeof *block) == YUYARISUN_DONE);
-    memset(block, 0xff, sizeof block);
+    HOLD(lay(&pool, sizes) == YUYARISUN_DONE);
+    spoil();
     yuyarisun_trace_answer whole = yuyarisun_pool_trace(&pool, trace, length, answers, sizeof answers / sizeof *answers);
     HOLD(whole.number == YUYARISUN_DONE && whole.place == 0 && whole.events == 9 && whole.free_records == 1 && pool.collector.closed == 1);
     HOLD(memcmp(answers, answered, sizeof answered) == 0 && yuyarisun_pool_sound(&pool) && yuyarisun_pool_free_records(&pool) == 1);
@@ -230,7 +311,7 @@ static int traced(void)
 
     /* Tables that were laid out for another k and b, of the same lengths. */
     yuyarisun_sizes split = {2, 2, 1, 1, 0};
-    HOLD(yuyarisun_lay(&pool, split, block, sizeof block / sizeof *block) == YUYARISUN_DONE);
+    HOLD(lay(&pool, split) == YUYARISUN_DONE);
     longer[2] = 10;
     longer[12] = 2;
     whole = yuyarisun_pool_trace(&pool, longer, length + 2, NULL, 0);
@@ -269,8 +350,8 @@ static int reported(void)
     yuyarisun_pool pool;
     int64_t numbers[8];
     HOLD(YUYARISUN_CYCLES_LENGTH(length) >= 6 && YUYARISUN_CYCLES_LENGTH(34) == 0 && YUYARISUN_CYCLES_LENGTH(70) == 6);
-    HOLD(yuyarisun_lay(&pool, yuyarisun_sizes_of_trace(trace, length), block, sizeof block / sizeof *block) == YUYARISUN_DONE);
-    memset(block, 0xff, sizeof block);
+    HOLD(lay(&pool, yuyarisun_sizes_of_trace(trace, length)) == YUYARISUN_DONE);
+    spoil();
     memset(numbers, 0xff, sizeof numbers);
     yuyarisun_report_answer whole = yuyarisun_pool_report(&pool, trace, length, numbers, sizeof numbers / sizeof *numbers);
     HOLD(whole.number == YUYARISUN_DONE && whole.place == 0 && whole.events == 30 && whole.cycles == 2 && whole.free_records == 2);
@@ -345,5 +426,5 @@ static int joined(void)
 
 int main(void)
 {
-    return words() || laid_out() || named() || board() || many() || traced() || reported() || joined();
+    return words() || laid_out() || in_one_stretch() || named() || board() || packed() || many() || traced() || reported() || joined();
 }

@@ -1,14 +1,15 @@
 //! "A sound pool" of document 01 on lent tables, every clause, as one would write it for speed and
 //! without proofs; and reading the same tables once.
 //!
-//! Otherwise than the proved check it keeps what was seen of a link in bytes that an entry only
-//! writes, finds a link that stands twice by counting (then fewer links were seen than there are
-//! entries), and tallies four links in a turn.
+//! What was seen of a link it keeps in bits, as the changed marks are, which it compares by words. A link
+//! that stands twice it finds by counting (then fewer links were seen than there are entries), and it
+//! tallies four links in a turn.
 
 use yuyarisun::{Lent, Tables};
 
-/// No fewer than 8,208, and a multiple of 128.
-const LINKS: usize = 8320;
+/// No fewer than 8,208, and a multiple of 64.
+const LINKS: usize = 8256;
+const WORDS: usize = LINKS / 64;
 const RECORDS: usize = 1025;
 
 /// Numbers of one table or-ed together: 0 where each is 0, at most 1 where each is.
@@ -20,13 +21,25 @@ fn largest(numbers: &[u16]) -> u16 {
     numbers.iter().fold(0, |most, number| most.max(*number))
 }
 
-/// Reads every number of the tables once.
-pub fn read(tables: &Tables) -> u16 {
-    let Tables { used, counts, held, candidates, makers, values, .. } = tables;
-    let Tables { changed, registers, snoops, logs, history, lengths, .. } = tables;
-    [used, counts, held, candidates, makers, values, changed, registers, snoops, logs, history, lengths]
-        .into_iter()
-        .fold(0, |all, table| all | any(table))
+/// The same of words.
+fn any_word(words: &[u64]) -> u64 {
+    words.iter().fold(0, |all, word| all | word)
+}
+
+/// Reads every word and every number of the tables once.
+pub fn read(tables: &Tables) -> u64 {
+    let Tables { used, held, candidates, changed, .. } = tables;
+    let Tables { counts, makers, values, registers, snoops, logs, history, lengths, .. } = tables;
+    let numbers = [counts, makers, values, registers, snoops, logs, history, lengths];
+    let numbers = numbers.into_iter().fold(0, |all, table| all | any(table));
+    let words = [used, held, candidates, changed];
+    words.into_iter().fold(numbers.into(), |all, table| all | any_word(table))
+}
+
+/// So many marks in these words, and no unused bit on.
+fn packed(words: &[u64], marks: usize) -> bool {
+    let rest = marks % 64;
+    rest == 0 || words[marks / 64] >> rest == 0
 }
 
 fn phase_fits(pool: &Lent, entries: u16) -> bool {
@@ -43,9 +56,13 @@ fn phase_fits(pool: &Lent, entries: u16) -> bool {
 /// What was seen of each link: it stands among the logs and the uncleared history, it stands in the
 /// history; and the record that it counts for.
 struct Seen {
-    standing: [u8; LINKS],
-    in_history: [u8; LINKS],
+    standing: [u64; WORDS],
+    in_history: [u64; WORDS],
     counts_for: [u16; LINKS],
+}
+
+fn put_on(words: &mut [u64; WORDS], link: usize) {
+    words[link / 64] |= 1 << (link % 64);
 }
 
 /// The links of entries, and what each says of its link; whether all are in range.
@@ -66,7 +83,7 @@ fn logs(seen: &mut Seen, pool: &Lent) -> bool {
         let (log, past) = log.split_at(2 * *length as usize);
         ok &= any(past) == 0;
         ok &= entries(log, pool, |link, old| {
-            seen.standing[link] = 1;
+            put_on(&mut seen.standing, link);
             seen.counts_for[link] = old;
         });
     }
@@ -77,22 +94,22 @@ fn logs(seen: &mut Seen, pool: &Lent) -> bool {
 fn history(seen: &mut Seen, pool: &Lent, counted: usize, cleared: usize, length: usize) -> bool {
     let list = &pool.tables.history;
     let mut ok = any(&list[2 * length..]) == 0;
-    ok &= entries(&list[..2 * counted], pool, |link, _| seen.in_history[link] = 1);
+    ok &= entries(&list[..2 * counted], pool, |link, _| put_on(&mut seen.in_history, link));
     ok &= entries(&list[2 * counted..2 * cleared], pool, |link, old| {
-        seen.in_history[link] = 1;
+        put_on(&mut seen.in_history, link);
         seen.counts_for[link] = old;
     });
     ok &= entries(&list[2 * cleared..2 * length], pool, |link, old| {
-        seen.in_history[link] = 1;
-        seen.standing[link] = 1;
+        put_on(&mut seen.in_history, link);
+        put_on(&mut seen.standing, link);
         seen.counts_for[link] = old;
     });
     ok
 }
 
-/// How many marks are on, 128 of them in bytes at a time.
-fn on(marks: &[u8; LINKS]) -> usize {
-    marks.chunks_exact(128).map(|some| some.iter().sum::<u8>() as usize).sum()
+/// How many marks are on.
+fn on(marks: &[u64; WORDS]) -> usize {
+    marks.iter().map(|word| word.count_ones() as usize).sum()
 }
 
 fn counts_fit(values: &[u16], counts: &[u16]) -> bool {
@@ -121,19 +138,21 @@ pub fn sound(pool: &Lent) -> bool {
     if largest(&tables.lengths) as usize > links || !phase_fits(pool, length) {
         return false;
     }
-    let marks = any(&tables.used)
-        | any(&tables.held)
-        | any(&tables.candidates)
-        | any(&tables.snoops)
-        | any(&tables.changed);
-    if marks > 1 || largest(&tables.makers) > sizes.w {
+    let records = usize::from(sizes.n);
+    if any(&tables.snoops) > 1
+        || !packed(&tables.used, records)
+        || !packed(&tables.held, records)
+        || !packed(&tables.candidates, records)
+        || !packed(&tables.changed, links)
+        || largest(&tables.makers) > sizes.w
+    {
         return false;
     }
     // The last made number stands behind the registers.
     if largest(&tables.registers) > sizes.n || largest(&tables.values) > sizes.n {
         return false;
     }
-    let mut seen = Seen { standing: [0; LINKS], in_history: [0; LINKS], counts_for: [0; LINKS] };
+    let mut seen = Seen { standing: [0; WORDS], in_history: [0; WORDS], counts_for: [0; LINKS] };
     seen.counts_for[..links].copy_from_slice(&tables.values);
     let (counted, cleared) = match pool.collector.phase {
         2 => (0, 0),
@@ -147,7 +166,7 @@ pub fn sound(pool: &Lent) -> bool {
     let entered =
         tables.lengths[..lists].iter().map(|n| *n as usize).sum::<usize>() + (length - cleared) as usize;
     let mismatched =
-        tables.changed.iter().zip(&seen.standing).fold(0, |all, (mark, seen)| all | (mark ^ *seen as u16));
+        tables.changed.iter().zip(&seen.standing).fold(0, |all, (marks, seen)| all | (marks ^ seen));
     mismatched == 0
         && on(&seen.standing) == entered
         && on(&seen.in_history) == length as usize

@@ -12,6 +12,17 @@ struct Lists {
     history: Vec<usize>,
 }
 
+/// Every mark of so many on, the unused bits off.
+fn all_on(marks: usize) -> Vec<u64> {
+    (0..marks.div_ceil(64)).map(|word| u64::MAX >> (64 - (marks - 64 * word).min(64))).collect()
+}
+
+/// The mark at a place, on or off.
+fn put(marks: &mut [u64], place: usize, on: bool) {
+    let bit = 1 << (place % 64);
+    marks[place / 64] = if on { marks[place / 64] | bit } else { marks[place / 64] & !bit };
+}
+
 /// A pool whose every record is used, with random values and marks.
 fn worked(sizes: Sizes, phase: u16, position: u16, lists: Lists) -> Lent {
     let mut random = Random::new(u64::from(sizes.n));
@@ -19,7 +30,7 @@ fn worked(sizes: Sizes, phase: u16, position: u16, lists: Lists) -> Lent {
     let mut record = || random.below(sizes.n as usize + 1) as u16;
     tables.values.fill_with(&mut record);
     tables.registers.fill_with(&mut record);
-    tables.used.fill(1);
+    tables.used = all_on(sizes.n.into());
     // What each link counts for.
     let mut counted = tables.values.clone();
     let room = 2 * sizes.links();
@@ -29,7 +40,7 @@ fn worked(sizes: Sizes, phase: u16, position: u16, lists: Lists) -> Lent {
             let old = record();
             tables.logs[w * room + 2 * i] = *link as u16;
             tables.logs[w * room + 2 * i + 1] = old;
-            tables.changed[*link] = 1;
+            put(&mut tables.changed, *link, true);
             counted[*link] = old;
         }
     }
@@ -39,7 +50,7 @@ fn worked(sizes: Sizes, phase: u16, position: u16, lists: Lists) -> Lent {
         tables.history[2 * i] = *link as u16;
         tables.history[2 * i + 1] = old;
         if phase == 2 || phase == 3 && i >= position as usize {
-            tables.changed[*link] = 1;
+            put(&mut tables.changed, *link, true);
         }
         if phase < 5 || i >= position as usize {
             counted[*link] = old;
@@ -128,7 +139,7 @@ fn searched(sizes: Sizes, found: Found) -> Lent {
             tables.counts[*value as usize - 1] += 1;
         }
     }
-    tables.candidates.fill(1);
+    tables.candidates = all_on(sizes.n.into());
     pool
 }
 
@@ -145,7 +156,7 @@ pub fn all(sizes: Sizes) -> Vec<Situation> {
     let one_free = |last_made: u16, free: u16| {
         let mut pool = quiet(sizes);
         pool.tables.registers[(sizes.w * sizes.r) as usize] = last_made;
-        pool.tables.used[free as usize - 1] = 0;
+        put(&mut pool.tables.used, free as usize - 1, false);
         pool
     };
     let last = sizes.n as usize - 1;

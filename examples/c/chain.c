@@ -1,17 +1,18 @@
-/* A chain of three records is made, dropped and given back; then a table is spoilt, and the next call refuses it. All twelve tables lie in one block, which the
- * program owns. What it prints is examples/chain.expected. */
+/* A chain of three records is made, dropped and given back; then a table is spoilt, and the next call refuses it. The twelve tables lie in two arrays, which the
+ * program owns: the marks in words of 64 bits, the others in numbers of 16. What it prints is examples/chain.expected. */
 #include <stdio.h>
 
 #include "yuyarisun.h"
 
 enum { N = 8, K = 2, W = 1, R = 3, B = 0 };
-static uint16_t block[YUYARISUN_TOTAL_LENGTH(N, K, W, R, B)];
+static uint64_t marks[YUYARISUN_MARKS_LENGTH(N, K, W, R, B)];
+static uint16_t numbers[YUYARISUN_NUMBERS_LENGTH(N, K, W, R, B)];
 
 int main(void)
 {
     const yuyarisun_sizes sizes = {N, K, W, R, B};
     yuyarisun_pool pool;
-    if (yuyarisun_lay(&pool, sizes, block, sizeof block / sizeof *block) != YUYARISUN_DONE)
+    if (yuyarisun_lay(&pool, sizes, marks, sizeof marks / sizeof *marks, numbers, sizeof numbers / sizeof *numbers) != YUYARISUN_DONE)
         return 1;
     if (yuyarisun_pool_fresh(&pool) != YUYARISUN_DONE)
         return 1;

@@ -34,8 +34,10 @@ impl Lent {
         raw::is_sound(self.sizes, &self.tables, self.collector)
     }
 
-    /// How many of the used marks are 0.
+    /// How many records are free: N less the used marks that are on, whatever words these are, and 0
+    /// where there are more of them. Bits behind the last record's count as any others; in a sound pool
+    /// they are off.
     pub fn free_records(&self) -> usize {
-        raw::free_records(&self.tables.used)
+        raw::free_records(self.sizes.n, &self.tables.used)
     }
 }

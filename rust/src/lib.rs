@@ -8,7 +8,8 @@
 //! - [`Event`]     an event as a value, for those who read events from somewhere
 //! - [`Refusal`]   why a call refuses, with the documents' number and its words
 //! - [`Collector`] the collector's own record: its phase, its position, how many cycles have closed
-//! - [`Tables`], [`Lent`]  the tables of a pool in the open, and the checked calls on them
+//! - [`Tables`], [`Lent`]  the tables of a pool in the open, and the checked calls on them;
+//!   [`mark_at`] for one mark
 //! - [`replay()`]  a whole trace from its bytes, on tables of its own; [`Field`] for those who write one
 //! - [`report()`]  the numbers of each of its cycles that closed: what it took, freed and left counted
 //! - [`join()`]    the parts of a trace, one for each worker and one for the collector, joined to it
@@ -69,7 +70,7 @@ pub use pool::Pool;
 pub use refusal::Refusal;
 pub use replay::{replay, Replay};
 pub use report::{report, Report};
-pub use sizes::{Collector, Sizes, Tables};
+pub use sizes::{mark_at, Collector, Sizes, Tables};
 pub use trace::{answers_in, answers_length, cycles_in, cycles_length, Answer, Cycle, Reported, Stop, Whole};
 
 /// The examples of the page for newcomers are tried with those of the crate.

@@ -252,7 +252,7 @@ impl Pool {
     /// # Ok::<(), yuyarisun::Refusal>(())
     /// ```
     pub fn free_records(&self) -> usize {
-        raw::free_records(&self.tables().used)
+        raw::free_records(self.sizes().n, &self.tables().used)
     }
 
     /// The sizes that it was made with.

@@ -5,8 +5,8 @@
 //! - `join`  the call that takes any parts of a trace, answered in numbers
 //! - `Sound`  tables that are known to be a sound pool's, and the event that checks nothing
 //!
-//! What a caller of the library owes. A table is lent as a pointer and how many numbers it points
-//! to, and no two of the things lent may overlap. That is all that the public functions ask for:
+//! What a caller of the library owes. A table is lent as a pointer and how many words or numbers it
+//! points to, and no two of the things lent may overlap. That is all that the public functions ask for:
 //! they are proved to take any sizes, any tables, any event and any bytes. Here the tables are the
 //! `Vec`s of one `Tables`, each lent with its own length, which are alive, aligned and apart; so are
 //! the collector's record and the slices of bytes and of numbers, which are behind other references.
@@ -17,17 +17,17 @@
 use crate::event::Event;
 use crate::sizes::{Collector, Sizes, Tables};
 
-/// Declares functions that are lent the tables by way of `$table`; what comes first stands in the
-/// brackets, and what each takes besides behind the dots.
+/// Declares functions that are lent the tables of marks by way of `$marks` and the others by way of
+/// `$table`; what comes first stands in the brackets, and what each takes besides behind the dots.
 macro_rules! lent_tables {
-    ($table:ty: $(fn $name:ident([$($first:ident: $one:ty),*], .. $(, $more:ident: $type:ty)*) -> $answer:ty;)*) => {
+    ($marks:ty, $table:ty: $(fn $name:ident([$($first:ident: $one:ty),*], .. $(, $more:ident: $type:ty)*) -> $answer:ty;)*) => {
         extern "C" {
             $(fn $name(
                 $($first: $one,)*
-                used: $table, used_length: usize, counts: $table, counts_length: usize,
-                held: $table, held_length: usize, candidates: $table, candidates_length: usize,
+                used: $marks, used_length: usize, counts: $table, counts_length: usize,
+                held: $marks, held_length: usize, candidates: $marks, candidates_length: usize,
                 makers: $table, makers_length: usize, values: $table, values_length: usize,
-                changed: $table, changed_length: usize, registers: $table, registers_length: usize,
+                changed: $marks, changed_length: usize, registers: $table, registers_length: usize,
                 snoops: $table, snoops_length: usize, logs: $table, logs_length: usize,
                 history: $table, history_length: usize, lengths: $table, lengths_length: usize
                 $(, $more: $type)*
@@ -40,7 +40,7 @@ macro_rules! lent_tables {
 /// behind the tables.
 macro_rules! lent_a_pool {
     ($(fn $name:ident(.. $(, $more:ident: $type:ty)*) -> u16;)*) => {
-        lent_tables! { *mut u16: $(
+        lent_tables! { *mut u64, *mut u16: $(
             fn $name(
                 [n: u16, k: u16, w: u16, r: u16, b: u16], ..,
                 phase: *mut u16, position: *mut u16, closed: *mut u16 $(, $more: $type)*
@@ -67,7 +67,7 @@ lent_a_pool! {
     fn yuyarisun_inner_event(.., value: *mut u16, tag: u8, first: u8, second: u8, third: u8, fourth: u8) -> u16;
 }
 
-lent_tables! { *mut u16:
+lent_tables! { *mut u64, *mut u16:
     fn yuyarisun_trace(
         [], .., phase: *mut u16, position: *mut u16, closed: *mut u16,
         bytes: *const u8, bytes_length: usize, answers: *mut u16, answers_length: usize,
@@ -80,14 +80,14 @@ lent_tables! { *mut u16:
     ) -> u16;
 }
 
-lent_tables! { *const u16:
+lent_tables! { *const u64, *const u16:
     fn yuyarisun_sound(
         [n: u16, k: u16, w: u16, r: u16, b: u16], .., phase: u16, position: u16, closed: u16
     ) -> bool;
 }
 
 extern "C" {
-    fn yuyarisun_free_records(used: *const u16, used_length: usize) -> usize;
+    fn yuyarisun_free_records(n: u16, used: *const u64, used_length: usize) -> usize;
     fn yuyarisun_join(
         parts: *const u8,
         parts_length: usize,
@@ -280,10 +280,10 @@ pub(crate) fn report(
     (Ended { number, events, free, place }, cycles)
 }
 
-/// How many of the marks are 0.
-pub(crate) fn free_records(used: &[u16]) -> usize {
+/// N less the marks that are on, 0 where there are more of them.
+pub(crate) fn free_records(n: u16, used: &[u64]) -> usize {
     // SAFETY: a public function, lent one slice to read alone.
-    unsafe { yuyarisun_free_records(used.as_ptr(), used.len()) }
+    unsafe { yuyarisun_free_records(n, used.as_ptr(), used.len()) }
 }
 
 /// Parts of a trace, joined.

@@ -50,27 +50,62 @@ impl Sizes {
     pub fn links(self) -> usize {
         usize::from(self.n) * usize::from(self.k) + usize::from(self.b)
     }
+
+    /// How many words the used marks take, and so do the held and the candidate marks: (N + 63) / 64.
+    pub fn record_words(self) -> usize {
+        usize::from(self.n).div_ceil(MARKS_IN_A_WORD)
+    }
+
+    /// How many words the changed marks take: (S + 63) / 64.
+    pub fn link_words(self) -> usize {
+        self.links().div_ceil(MARKS_IN_A_WORD)
+    }
+}
+
+/// How many marks a word has.
+const MARKS_IN_A_WORD: usize = 64;
+
+/// Whether the mark at a place of a table of marks is on: that of record a is at a - 1, that of link l
+/// at l. The lowest number has the lowest bit.
+///
+/// Panics where the words have no such place.
+///
+/// ```
+/// use yuyarisun::{mark_at, Pool, Sizes};
+///
+/// let mut pool = Pool::new(Sizes { n: 65, k: 1, w: 1, r: 1, b: 0 })?;
+/// let made = (0..65).map(|_| pool.make(0, 0)).last().expect("65 records are made")?;
+/// assert_eq!(pool.tables().used, [u64::MAX, 1]);
+/// assert!(mark_at(&pool.tables().used, usize::from(made.number()) - 1));
+/// # Ok::<(), yuyarisun::Refusal>(())
+/// ```
+pub fn mark_at(marks: &[u64], place: usize) -> bool {
+    marks[place / MARKS_IN_A_WORD] >> (place % MARKS_IN_A_WORD) & 1 == 1
 }
 
 /// The twelve tables of a pool, in which it lies as the section "Lending tables" of the README
 /// says. Their lengths have to be exact.
+///
+/// Four of them have marks in words of 64 bits, the lowest number in the lowest bit ([`mark_at`]). The
+/// bits of the last word behind the last record's or the last link's are 0: with one of them on the
+/// pool is not sound.
 #[derive(Clone, Debug, Default, PartialEq, Eq)]
 pub struct Tables {
-    /// N: of record a at a - 1, 1 if it is used and 0 if it is free.
-    pub used: Vec<u16>,
+    /// (N + 63) / 64 words: the mark of record a at a - 1, on if it is used and off if it is free.
+    pub used: Vec<u64>,
     /// N: of record a at a - 1, its count.
     pub counts: Vec<u16>,
-    /// N: of record a at a - 1, its held mark.
-    pub held: Vec<u16>,
-    /// N: of record a at a - 1, its candidate mark.
-    pub candidates: Vec<u16>,
+    /// (N + 63) / 64 words: of record a at a - 1, its held mark.
+    pub held: Vec<u64>,
+    /// (N + 63) / 64 words: of record a at a - 1, its candidate mark.
+    pub candidates: Vec<u64>,
     /// N: of record a at a - 1, the worker that made it + 1, or 0.
     pub makers: Vec<u16>,
     /// S: of link l at l, the record that it leads to, or 0. Link f of record a has the number (a -
     /// 1) x K + f, and board entry e the number N x K + e.
     pub values: Vec<u16>,
-    /// S: of link l at l, its changed mark.
-    pub changed: Vec<u16>,
+    /// (S + 63) / 64 words: of link l at l, its changed mark.
+    pub changed: Vec<u64>,
     /// W x R + 1: register r of worker w at w x R + r, and at W x R the last made number.
     pub registers: Vec<u16>,
     /// W: each worker's snoop flag.
@@ -85,19 +120,20 @@ pub struct Tables {
 }
 
 impl Tables {
-    /// Tables of the right lengths with every number 0: a fresh pool, where the sizes are in range.
+    /// Tables of the right lengths with every mark off and every number 0: a fresh pool, where the
+    /// sizes are in range.
     /// Sizes far out of range may ask for more memory than there is.
     pub fn zeros(sizes: Sizes) -> Tables {
         let [n, w, r] = [sizes.n, sizes.w, sizes.r].map(usize::from);
         let s = sizes.links();
         Tables {
-            used: vec![0; n],
+            used: vec![0; sizes.record_words()],
             counts: vec![0; n],
-            held: vec![0; n],
-            candidates: vec![0; n],
+            held: vec![0; sizes.record_words()],
+            candidates: vec![0; sizes.record_words()],
             makers: vec![0; n],
             values: vec![0; s],
-            changed: vec![0; s],
+            changed: vec![0; sizes.link_words()],
             registers: vec![0; w * r + 1],
             snoops: vec![0; w],
             logs: vec![0; w * 2 * s],
@@ -110,10 +146,12 @@ impl Tables {
     pub fn are_exact(&self, sizes: Sizes) -> bool {
         let [n, w, r] = [sizes.n, sizes.w, sizes.r].map(usize::from);
         let s = sizes.links();
-        let by_record = [&self.used, &self.counts, &self.held, &self.candidates, &self.makers];
-        by_record.into_iter().all(|table| table.len() == n)
+        let by_record = [&self.used, &self.held, &self.candidates];
+        by_record.into_iter().all(|marks| marks.len() == sizes.record_words())
+            && self.changed.len() == sizes.link_words()
+            && self.counts.len() == n
+            && self.makers.len() == n
             && self.values.len() == s
-            && self.changed.len() == s
             && self.registers.len() == w * r + 1
             && self.snoops.len() == w
             && self.logs.len() == w * 2 * s

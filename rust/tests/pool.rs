@@ -4,7 +4,7 @@
 use std::collections::BTreeSet;
 use std::error::Error;
 
-use yuyarisun::{Collector, Event, Lent, Pool, Record, Refusal, Sizes, Tables};
+use yuyarisun::{mark_at, Collector, Event, Lent, Pool, Record, Refusal, Sizes, Tables};
 
 fn pool(n: u16, k: u16, w: u16, r: u16) -> Pool {
     Pool::new(Sizes { n, k, w, r, b: 0 }).expect("the sizes are in range")
@@ -161,10 +161,8 @@ fn a_board_entry_is_a_link() -> Result<(), Refusal> {
     pool.post(0, 2, 0)?;
     pool.post(0, 2, 0)?;
     let tables = pool.tables();
-    assert_eq!(
-        (&tables.values[..], &tables.changed[..]),
-        (&[0, 0, 0, 0, 0, 0, 1][..], &[0, 0, 0, 0, 0, 0, 1][..])
-    );
+    assert_eq!((&tables.values[..], &tables.changed[..]), (&[0, 0, 0, 0, 0, 0, 1][..], &[1 << 6][..]));
+    assert!((0..7).all(|link| mark_at(&tables.changed, link) == (link == 6)));
     assert_eq!((&tables.logs[..3], &tables.lengths[..]), (&[6, 0, 0][..], &[1, 0][..]));
     assert_eq!((tables.logs.len(), tables.history.len()), (14, 14));
     Ok(())
@@ -261,6 +259,63 @@ fn tables_are_put_away_and_taken_up_again() -> Result<(), Refusal> {
     spoilt.changed[0] = 1;
     assert_eq!(Pool::from_tables(sizes, spoilt, collector), Err(Refusal::NotSound));
     Ok(())
+}
+
+/// "64-bit words, lowest number in the lowest bit": record 64 has the last bit of a word, 65 the first of the
+/// next.
+#[test]
+fn a_record_has_its_bit() -> Result<(), Refusal> {
+    for n in [1, 63, 64, 65, 127, 128, 1024] {
+        let mut pool = pool(n, 1, 1, 1);
+        assert_eq!(pool.tables().used.len(), pool.sizes().record_words());
+        for place in 0..usize::from(n) {
+            assert_eq!(usize::from(pool.make(0, 0)?.number()), place + 1);
+            assert_eq!(pool.tables().used[place / 64] >> (place % 64), 1);
+            assert!(mark_at(&pool.tables().used, place));
+            assert_eq!(pool.free_records(), usize::from(n) - place - 1);
+        }
+        assert_eq!(pool.make(0, 0), Err(Refusal::NoneFree));
+    }
+    Ok(())
+}
+
+/// "A sound pool has the unused bits at 0, otherwise 2."
+#[test]
+fn unused_bits_are_off() {
+    let tables: [fn(&mut Tables) -> &mut Vec<u64>; 4] =
+        [|t| &mut t.used, |t| &mut t.held, |t| &mut t.candidates, |t| &mut t.changed];
+    for n in [1, 63, 64, 65, 127, 128, 1024] {
+        let sizes = Sizes { n, k: 1, w: 1, r: 1, b: 0 };
+        let mut lent = Lent { sizes, tables: Tables::zeros(sizes), collector: Collector::default() };
+        for table in tables {
+            let bits = 64 * table(&mut lent.tables).len();
+            for place in usize::from(n)..bits {
+                table(&mut lent.tables)[place / 64] ^= 1 << (place % 64);
+                assert!(!lent.is_sound());
+                assert_eq!(lent.event(Event::Collect), Err(Refusal::NotSound));
+                table(&mut lent.tables)[place / 64] ^= 1 << (place % 64);
+            }
+            assert!(lent.is_sound());
+        }
+    }
+}
+
+/// N less the ones, of however many words.
+#[test]
+fn free_records_are_counted_from_any_words() {
+    let sizes = Sizes { n: 65, k: 1, w: 1, r: 1, b: 0 };
+    let mut lent = Lent { sizes, tables: Tables::zeros(sizes), collector: Collector::default() };
+    for (words, free) in [
+        (vec![], 65),
+        (vec![u64::MAX], 1),
+        (vec![u64::MAX, 1], 0),
+        (vec![u64::MAX, u64::MAX], 0), // more ones than records
+        (vec![0, 1 << 63], 64),        // an unused bit is a one
+        (vec![3, 3, 3], 59),
+    ] {
+        lent.tables.used = words;
+        assert_eq!(lent.free_records(), free);
+    }
 }
 
 #[test]

@@ -12,6 +12,7 @@ use bench::situation::{self, all_changed, Written};
 use bench::table::{grouped, time, Table};
 use bench::{check, child, clock, counted, flat};
 use std::error::Error;
+use std::fmt::Debug;
 use std::fs::{self, File};
 use std::hint::black_box;
 use std::io::{BufWriter, Read, Seek, SeekFrom, Write};
@@ -477,30 +478,36 @@ fn agree(pool: &Lent) -> Done {
     if !pool.is_sound() || !check::sound(pool) {
         return Err("a pool that should be sound is not".into());
     }
-    let tables: [fn(&mut Lent) -> &mut Vec<u16>; 12] = [
+    let marks: [fn(&mut Lent) -> &mut Vec<u64>; 4] = [
         |pool| &mut pool.tables.used,
-        |pool| &mut pool.tables.counts,
         |pool| &mut pool.tables.held,
         |pool| &mut pool.tables.candidates,
+        |pool| &mut pool.tables.changed,
+    ];
+    let numbers: [fn(&mut Lent) -> &mut Vec<u16>; 8] = [
+        |pool| &mut pool.tables.counts,
         |pool| &mut pool.tables.makers,
         |pool| &mut pool.tables.values,
-        |pool| &mut pool.tables.changed,
         |pool| &mut pool.tables.registers,
         |pool| &mut pool.tables.snoops,
         |pool| &mut pool.tables.logs,
         |pool| &mut pool.tables.history,
         |pool| &mut pool.tables.lengths,
     ];
+    damaged(pool, &marks, &[0, 1, 2, 1 << 16, 1 << 63, u64::MAX])?;
+    damaged(pool, &numbers, &[0, 1, 2, 1025, LARGEST.links() as u16, u16::MAX])
+}
+
+/// The same with one of these in the place of another, in each of the tables.
+fn damaged<T: Copy + Debug>(pool: &Lent, tables: &[fn(&mut Lent) -> &mut Vec<T>], others: &[T]) -> Done {
     let mut damaged = pool.clone();
-    for (i, table) in tables.into_iter().enumerate() {
+    for (i, table) in tables.iter().enumerate() {
         let length = table(&mut damaged).len();
         for place in [0, length / 2, length - 1] {
-            for number in [0, 1, 2, 1025, LARGEST.links() as u16, u16::MAX] {
-                let before = std::mem::replace(&mut table(&mut damaged)[place], number);
+            for other in others {
+                let before = std::mem::replace(&mut table(&mut damaged)[place], *other);
                 if damaged.is_sound() != check::sound(&damaged) {
-                    return Err(
-                        format!("the checks differ: table {i}, place {place}, number {number}").into()
-                    );
+                    return Err(format!("the checks differ: table {i}, place {place}, {other:?}").into());
                 }
                 table(&mut damaged)[place] = before;
             }

@@ -6,7 +6,7 @@
 -- The check enters the history, the values and the logs into one list of what was seen of each link and one of the last that is known of it. Where every entry
 -- is in range, each falls on the place of its own link. So what was seen of a link is how often it stands among the logs and the uncleared history, plus
 -- 131,072 for each time it stands in the history; the first number is below 131,072, since 8 logs and the history have at most 8,208 entries each, so that the
--- two can be told apart. Each mark being 0 or 1, the marks are right exactly if the first number is the mark, and no link stands twice in the history exactly
+-- two can be told apart. The marks are right exactly if the first number is the mark, and no link stands twice in the history exactly
 -- if what was seen is below 262,144. Where that holds, the last that is known of a link is what it counts for: the old value of its one uncounted entry, which
 -- is entered last; else that of its one log entry, if its mark is on; else its value, since no log says anything of it. The four tallies together then count
 -- the links for each record.

@@ -16,6 +16,7 @@ use Rattle.rules.specs.Pool.{Pool}
 use Rattle.rules.specs.Sound.{Each, positions, countsFor}
 use Rattle.laws.proofs.Lists.{Each-places}
 use Rattle.soundness.proofs.Core.{core, sound}
+use Rattle.tables.specs.Bits.{Packed}
 use Rattle.tables.specs.Tables.{Tables}
 use Rattle.tables.specs.Lie.{poolOf}
 use Rattle.tables.specs.Known.{Exact, block, Padded, SoundTables}
@@ -23,7 +24,7 @@ use Rattle.tables.proofs.RoundTrip.{length-known}
 use Rattle.tables.proofs.Stand.{history-length}
 use Rattle.clauses.specs.Inspected.{phaseFits, paddedLogs, linksFit, inspected}
 use Rattle.clauses.proofs.Tests.{Tells, most-tells, _and_, _then_, _also_, every-tells, below-tells}
-use Rattle.clauses.proofs.IsSound.{marks-tell, zeros-tell, pool-shaped}
+use Rattle.clauses.proofs.IsSound.{packed-tells, zeros-tell, pool-shaped}
 use Rattle.clauses.proofs.Phase.{FitsPhase, phase-tells}
 use Rattle.clauses.proofs.Numbers.{NumbersFit, numbers-tell}
 use Rattle.clauses.proofs.Links.{Ranged, Right, Counted, ranged-tells, right-tells, counted-tells}
@@ -31,7 +32,7 @@ use Rattle.clauses.proofs.Links.{Ranged, Right, Counted, ranged-tells, 
 pub record LinksFit (s : Sizes) (t : Tables) (p : Pool) : Type 0 where
   pub range : Ranged s p
   pub padded : Padded s t
-  pub marks : Each (λ x. x ≤ 1) (t .changed)
+  pub marks : Packed (links s) (t .changed)
   pub right : (l : LinkNumber) → l .0 < links s → Right p l
   pub counts : Counted s p
 
@@ -50,8 +51,8 @@ module _ (s : Sizes) (t : Tables) (c : Collector) (sizes : inRange s ≡ true) (
       (ranged-tells s t c sizes exact lengths fits
       and below-tells (s .w) (λ w _. zeros-tell (drop (getD (t .lengths) w 0 * 2) (block s t w)))
       and zeros-tell (drop (getD (t .lengths) (s .w) 0 * 2) (t .history))
-      and marks-tell (t .changed)
-      then (λ (((range, _), _), marks). right-tells s t c sizes exact lengths fits range marks)
+      and packed-tells (links s) (t .changed)
+      then (λ (((range, _), _), _). right-tells s t c sizes exact lengths fits range)
       then (λ ((((range, _), _), _), right). counted-tells s t c sizes exact lengths fits range right)) (
         λ (((((range, logs), history), marks), right), counts).
             record { range = range; padded = record { logs = logs; history = history }; marks = marks; right = right; counts = counts },

@@ -1,14 +1,15 @@
 -- "A sound pool" of tables, clause by clause: what `isSound` tells.
---     marks-tell, zeros-tell     marks of 0 and 1, and numbers that are 0
+--     marks-tell, packed-tells, zeros-tell     flags of 0 and 1, unused bits 0, and numbers that are 0
 --     pool-shaped                every list of the pool that tables of exact lengths mean has its length
 --     sound-tells                the whole test
 -- Assumes nothing.
-use Prim.Native.Nat.{ℕ, suc, _≤_, _<_, zero-le}
-use mathlib.Core.Path.{_≡_, sym, ap, _∙_}
+use Prim.Native.Nat.{ℕ, suc, _^_, _≤_, _<_, zero-le}
+use mathlib.Core.Path.{_≡_, refl, sym, ap, _∙_}
+use mathlib.Core.Bool.{Bool, true, false, not}
 use mathlib.Core.Logic.{Iff·trans}
 use mathlib.Core.List.{List, []}
 use native.Mathlib.Omega.{arith}
-use lib.ListN.{length, getD, length-map, List·getD-map}
+use lib.ListN.{length, getD, drop, length-map, List·getD-map}
 use Rattle.rules.specs.declared.Sizes.{Sizes}
 use Rattle.rules.specs.declared.RecordNumber.{RecordNumber}
 use Rattle.rules.specs.declared.LinkNumber.{LinkNumber}
@@ -20,12 +21,14 @@ use Rattle.rules.specs.Sound.{Each, Shaped, EntryInRange, Sound, positions, emp
 use Rattle.laws.proofs.Entries.{times-append}
 use Rattle.laws.proofs.Lists.{Each-at}
 use Rattle.soundness.proofs.Core.{core, sound}
+use Rattle.tables.specs.Bits.{bitsOf, Packed}
 use Rattle.tables.specs.Tables.{Tables}
 use Rattle.tables.specs.Lie.{recordNumber, linkNumberOf, isOn, recordNumbers, cut, poolOf}
 use Rattle.tables.specs.Known.{Exact, Marked, Padded, SoundTables}
 use Rattle.tables.proofs.Blocks.{length-cut, cut-sized}
 use Rattle.tables.proofs.Logs.{length-logs}
-use Rattle.clauses.specs.IsSound.{every, isMark, isMarked, isZero, isPadded, isInRange, isSoundPool, isSound}
+use Rattle.tables.proofs.Packed.{length-marksIn}
+use Rattle.clauses.specs.IsSound.{every, isMark, isPacked, isMarked, isZero, isPadded, isInRange, isSoundPool, isSound}
 use Rattle.clauses.proofs.Tests.{Tells, equal-tells, most-tells, less-tells, _and_, _also_, empty-tells, unless-tells, every-tells, below-tells}
 use Rattle.clauses.proofs.Places.{everywhere, everywhere-record, every-record}
 
@@ -34,11 +37,22 @@ use Rattle.clauses.proofs.Places.{everywhere, everywhere-record, every-
 pub marks-tell : (xs : List ℕ) → Tells (every isMark xs) (Each (λ x. x ≤ 1) xs)
 marks-tell = every-tells (λ x. most-tells x 1)
 
-marked-tells : (t : Tables) → Tells (isMarked t) (Marked t)
-unfolding isMarked
-marked-tells t =
+off-tells : (b : Bool) → Tells (not b) (b ≡ false)
+off-tells true = (λ h. sym h, λ h. sym h)
+off-tells false = (λ h. refl, λ h. refl)
+
+pub packed-tells : (n : ℕ) (words : List ℕ) → Tells (isPacked n words) (Packed n words)
+unfolding isPacked
+packed-tells n words =
     Iff·trans
-    (marks-tell (t .used) and marks-tell (t .held) and marks-tell (t .candidates) and marks-tell (t .changed) and marks-tell (t .snoops)) (
+    (every-tells (λ x. less-tells x (2 ^ 64)) words and every-tells off-tells (drop n (bitsOf words)))
+    (λ (low, unused). record { low = low; unused = unused }, λ x. x .low also x .unused)
+
+marked-tells : (s : Sizes) (t : Tables) → Tells (isMarked s t) (Marked s t)
+unfolding isMarked
+marked-tells s t =
+    Iff·trans
+    (packed-tells (s .n) (t .used) and packed-tells (s .n) (t .held) and packed-tells (s .n) (t .candidates) and packed-tells (links s) (t .changed) and marks-tell (t .snoops)) (
       λ ((((used, held), candidates), changed), snoops). record { used = used; held = held; candidates = candidates; changed = changed; snoops = snoops },
       λ m. m .used also m .held also m .candidates also m .changed also m .snoops,
     )
@@ -142,13 +156,13 @@ module _ {s : Sizes} {t : Tables} (c : Collector) (exact : Exact s t) where
       record {
         records =
             record {
-              used = length-map (t .used) isOn ∙ exact .used;
+              used = length-marksIn (s .n) (t .used) (exact .used);
               count = exact .counts;
-              held = length-map (t .held) isOn ∙ exact .held;
-              candidate = length-map (t .candidates) isOn ∙ exact .candidates;
+              held = length-marksIn (s .n) (t .held) (exact .held);
+              candidate = length-marksIn (s .n) (t .candidates) (exact .candidates);
               maker = exact .makers;
             };
-        links = record { value = length-map (t .values) recordNumber ∙ exact .values; changed = length-map (t .changed) isOn ∙ exact .changed };
+        links = record { value = length-map (t .values) recordNumber ∙ exact .values; changed = length-marksIn (links s) (t .changed) (exact .changed) };
         workers =
             record {
               registers = length-map rows recordNumbers ∙ length-cut (s .w) (s .r) (t .registers);
@@ -170,5 +184,5 @@ module _ {s : Sizes} {t : Tables} (c : Collector) (exact : Exact s t) where
   unfolding isSound
   sound-tells =
       Iff·trans
-      (marked-tells t and padded-tells s t and pool-tells s (poolOf s t c) pool-shaped)
+      (marked-tells s t and padded-tells s t and pool-tells s (poolOf s t c) pool-shaped)
       (λ ((marked, padded), pool). record { marked = marked; padded = padded; sound = pool }, λ x. x .marked also x .padded also x .sound)

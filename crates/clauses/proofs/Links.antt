@@ -27,17 +27,17 @@ use Rattle.laws.proofs.Lists.{Each-map, Each-at, Each-right}
 use Rattle.laws.proofs.Entries.{times-from, oldIn-else, oldIn-absent, oldIn-present, oldIn-keeps}
 use Rattle.laws.proofs.LookUp.{view-marked, view-unmarked, view-keeps}
 use Rattle.laws.proofs.Tally.{tally-same}
+use Rattle.tables.specs.Bits.{markAt}
 use Rattle.tables.specs.Tables.{Tables}
 use Rattle.tables.specs.Lie.{recordNumber, linkNumberOf, poolOf}
 use Rattle.tables.specs.Known.{Exact}
 use Rattle.tables.proofs.Logs.{all-joined-most}
-use Rattle.tables.proofs.Marks.{bit-on}
 use Rattle.tables.proofs.Stand.{history-length, value-stands, changed-stands}
 use Rattle.clauses.specs.Entered.{Noted}
 use Rattle.clauses.specs.Tallied.{tallied, tallyOf}
 use Rattle.clauses.specs.Inspected.{countedTo, unclearedFrom, notedLinks, marksMatch, countsMatch}
 use Rattle.clauses.proofs.Tests.{Tells, equal-tells, less-tells, _and_, below-tells}
-use Rattle.clauses.proofs.Places.{each-everywhere, every-record}
+use Rattle.clauses.proofs.Places.{every-record}
 use Rattle.clauses.proofs.Phase.{FitsPhase, Parted, parted}
 use Rattle.clauses.proofs.Entries.{times-length, times-later}
 use Rattle.clauses.proofs.Noted.{noted-tells, noted-seen, noted-last}
@@ -126,25 +126,19 @@ module _ (s : Sizes) (t : Tables) (c : Collector) (sizes : inRange s ≡ true) (
             Each-at (λ n. n ≤ links s) (t .lengths) (s .w) 0 (omega (arith, exact .lengths)) lengths,
           )
 
-      module _ (marks : Each (λ x. x ≤ 1) (t .changed)) where
-        mark-is : (l : LinkNumber) → bit (changedAt p l) ≡ getD (t .changed) l.0 0
-        mark-is l =
-            ap bit (changed-stands s t c l) ∙ bit-on (getD (t .changed) l.0 0) (each-everywhere (λ x. x ≤ 1) 0 zero-le (t .changed) .0 marks l.0)
-
-        pub right-tells : Tells (marksMatch (t .changed) (noted-all .seen)) ((l : LinkNumber) → l .0 < links s → Right p l)
-        unfolding marksMatch
-        right-tells =
-            Iff·trans (below-tells (length (t .changed)) (λ i k. at-link (linkNumberOf i) (omega (arith, exact .changed))))
-            (λ h l k. h l.0 (omega (arith, exact .changed)), λ h i k. h (linkNumberOf i) (omega (arith, exact .changed)))
-          where
-            at-link : (l : LinkNumber) → l .0 < links s
-                → Tells (eqb (getD (noted-all .seen) l.0 0 % 131072) (getD (t .changed) l.0 0) && ltb (getD (noted-all .seen) l.0 0) 262144) (Right p l)
-            at-link l k =
-                let seen = seen-is l k in
-                let apart = few l in
-                let mark = mark-is l in
-                Iff·trans (equal-tells (getD (noted-all .seen) l.0 0 % 131072) (getD (t .changed) l.0 0) and less-tells (getD (noted-all .seen) l.0 0) 262144)
-                (λ (same, once). record { mark = omega arith; once = omega arith }, λ x. (omega (arith, x .mark), omega (arith, x .once)))
+      pub right-tells : Tells (marksMatch (links s) (t .changed) (noted-all .seen)) ((l : LinkNumber) → l .0 < links s → Right p l)
+      unfolding marksMatch
+      right-tells =
+          Iff·trans (below-tells (links s) (λ i k. at-link (linkNumberOf i) k)) (λ h l k. h l.0 k, λ h i k. h (linkNumberOf i) k)
+        where
+          at-link : (l : LinkNumber) → l .0 < links s
+              → Tells (eqb (getD (noted-all .seen) l.0 0 % 131072) (bit (markAt (t .changed) l.0)) && ltb (getD (noted-all .seen) l.0 0) 262144) (Right p l)
+          at-link l k =
+              let seen = seen-is l k in
+              let apart = few l in
+              let mark = ap bit (changed-stands s t c l k) in
+              Iff·trans (equal-tells (getD (noted-all .seen) l.0 0 % 131072) (bit (markAt (t .changed) l.0)) and less-tells (getD (noted-all .seen) l.0 0) 262144)
+              (λ (same, once). record { mark = omega (arith, bit-most (markAt (t .changed) l.0)); once = omega (arith, bit-most (markAt (t .changed) l.0)) }, λ x. (omega (arith, x .mark), omega (arith, x .once)))
 
       module _ (right : (l : LinkNumber) → l .0 < links s → Right p l) where
         -- a link that no uncounted entry is for counts for its view value

@@ -15,6 +15,7 @@ use Rattle.rules.specs.declared.Collector.{Collector}
 use Rattle.rules.specs.Pool.{Pool, none, makerAt, valueAt, registerAt}
 use Rattle.rules.specs.Sound.{Each}
 use Rattle.laws.proofs.Lists.{Each-append, Each-left, Each-right, Each-all, Each-flatten}
+use Rattle.tables.specs.Bits.{Packed}
 use Rattle.tables.specs.Tables.{Tables}
 use Rattle.tables.specs.Lie.{recordNumber, linkNumberOf, recordNumbers, cut, poolOf}
 use Rattle.tables.specs.Known.{Exact}
@@ -24,12 +25,12 @@ use Rattle.tables.proofs.Stand.{value-stands}
 use Rattle.clauses.specs.Inspected.{numbersFit}
 use Rattle.clauses.proofs.Tests.{Tells, most-tells, _and_, _also_, every-tells}
 use Rattle.clauses.proofs.Places.{each-everywhere, everywhere-record}
-use Rattle.clauses.proofs.IsSound.{marks-tell}
+use Rattle.clauses.proofs.IsSound.{marks-tell, packed-tells}
 
 pub record NumbersFit (s : Sizes) (t : Tables) (c : Collector) : Type 0 where
-  pub used : Each (λ x. x ≤ 1) (t .used)
-  pub held : Each (λ x. x ≤ 1) (t .held)
-  pub candidates : Each (λ x. x ≤ 1) (t .candidates)
+  pub used : Packed (s .n) (t .used)
+  pub held : Packed (s .n) (t .held)
+  pub candidates : Packed (s .n) (t .candidates)
   pub makers : (a : RecordNumber) → makerAt (poolOf s t c) a ≤ s .w
   pub registers : (w r : ℕ) → registerAt (poolOf s t c) w r .0 ≤ s .n
   pub last : poolOf s t c .last .0 ≤ s .n
@@ -90,9 +91,9 @@ module _ (s : Sizes) (t : Tables) (c : Collector) where
     unfolding numbersFit
     numbers-tell =
         Iff·trans
-        (marks-tell (t .used)
-        and marks-tell (t .held)
-        and marks-tell (t .candidates)
+        (packed-tells (s .n) (t .used)
+        and packed-tells (s .n) (t .held)
+        and packed-tells (s .n) (t .candidates)
         and Iff·trans (every-tells (λ n. most-tells n (s .w)) (t .makers)) makers-are
         and Iff·trans (every-tells (λ n. most-tells n (s .n)) (t .registers)) registers-are
         and marks-tell (t .snoops)) (

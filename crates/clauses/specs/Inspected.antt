@@ -16,9 +16,11 @@ use Rattle.rules.specs.declared.Sizes.{Sizes}
 use Rattle.rules.specs.declared.Collector.{Collector}
 use Rattle.rules.specs.Size.{links}
 use Rattle.rules.specs.Pool.{Entry}
+use Rattle.rules.specs.View.{bit}
+use Rattle.tables.specs.Bits.{markAt}
 use Rattle.tables.specs.Tables.{Tables}
 use Rattle.tables.specs.Lie.{entries, room, logsIn}
-use Rattle.clauses.specs.IsSound.{every, below, isMark, isZero}
+use Rattle.clauses.specs.IsSound.{every, below, isMark, isPacked, isZero}
 use Rattle.clauses.specs.Entered.{Noted, once, outstanding, enteredAll}
 use Rattle.clauses.specs.Tallied.{tallied, tallyOf}
 
@@ -63,31 +65,30 @@ notedLinks s t c =
     (valued (s .n) (t .values)
     (enter once (take to history) (record { ok = true; seen = replicate 8208 0; last = replicate 8208 0 })))))
 
-unfoldable pub marksMatch : List ℕ → List ℕ → Bool
-marksMatch changed seen =
-    below (length changed) (λ l. eqb (getD seen l 0 % 131072) (getD changed l 0) && ltb (getD seen l 0) 262144)
+unfoldable pub marksMatch : ℕ → List ℕ → List ℕ → Bool
+marksMatch links changed seen =
+    below links (λ l. eqb (getD seen l 0 % 131072) (bit (markAt changed l)) && ltb (getD seen l 0) 262144)
 
 unfoldable pub countsMatch : List ℕ → List ℕ → Bool
 countsMatch counts tally = below (length counts) (λ i. eqb (tallyOf tally (suc i)) (getD counts i 0))
 
--- every clause on links: the entries, their padding, the marks and the counts. That a mark is 0 or 1 is a test of its own: a mark of 2 would match a link that
--- stands twice in a log
+-- every clause on links: the entries, their padding, the marks and the counts
 unfoldable pub linksFit : Sizes → Tables → Collector → Bool
 linksFit s t c =
     let x : Noted = notedLinks s t c in
     x .ok
     && paddedLogs s (t .logs) (t .lengths)
     && every isZero (drop (getD (t .lengths) (s .w) 0 * 2) (t .history))
-    && every isMark (t .changed)
-    && marksMatch (t .changed) (x .seen)
+    && isPacked (links s) (t .changed)
+    && marksMatch (links s) (t .changed) (x .seen)
     && countsMatch (t .counts) (tallied (x .last) (links s) (replicate 8320 0))
 
 -- every clause on numbers of one table
 unfoldable pub numbersFit : Sizes → Tables → Bool
 numbersFit s t =
-    every isMark (t .used)
-    && every isMark (t .held)
-    && every isMark (t .candidates)
+    isPacked (s .n) (t .used)
+    && isPacked (s .n) (t .held)
+    && isPacked (s .n) (t .candidates)
     && every (λ n. leb n (s .w)) (t .makers)
     && every (λ n. leb n (s .n)) (t .registers)
     && every isMark (t .snoops)

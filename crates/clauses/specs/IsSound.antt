@@ -1,11 +1,12 @@
 -- "A sound pool" of tables, as a test, clause by clause in the document's order. That it is true exactly where `SoundTables` holds is proofs/Exactly.antt.
 --     every, below     a test of each element of a list, and of each number below another
---     isMarked         "marks and flags 0 or 1"
+--     isPacked         unused bits 0
+--     isMarked         "marks and flags 0 or 1", and unused bits 0
 --     isPadded         "0 in every entry past a list's length"
 --     isSoundPool      every clause that a pool of the rules can break
 --     isSound          all of it
 -- Assumes nothing.
-use Prim.Native.Nat.{ℕ, zero, suc, _*_}
+use Prim.Native.Nat.{ℕ, zero, suc, _*_, _^_}
 use mathlib.Core.Bool.{Bool, true, not, _&&_, _||_}
 use mathlib.Core.List.{List, [], _∷_}
 use lib.Dec.{eqb, leb, ltb}
@@ -16,6 +17,7 @@ use Rattle.rules.specs.Size.{links}
 use Rattle.rules.specs.Pool.{Entry, Pool, countAt, makerAt, valueAt, changedAt, registerAt, logAt}
 use Rattle.rules.specs.View.{bit, times, allLogs}
 use Rattle.rules.specs.Sound.{positions, emptyIn, entriesIn, outstanding, countsFor, tally}
+use Rattle.tables.specs.Bits.{bitsOf}
 use Rattle.tables.specs.Tables.{Tables}
 use Rattle.tables.specs.Lie.{recordNumber, linkNumberOf, poolOf}
 use Rattle.tables.specs.Known.{block}
@@ -31,10 +33,18 @@ below (suc n) test = below n test && test n
 abbrev pub isMark : ℕ → Bool
 isMark x = leb x 1
 
+-- n marks in words of 64 bits: "A sound pool has the unused bits at 0" (document 02, request 9)
+unfoldable pub isPacked : ℕ → List ℕ → Bool
+isPacked n words = every (λ x. ltb x (2 ^ 64)) words && every not (drop n (bitsOf words))
+
 -- "marks and flags 0 or 1"
-unfoldable pub isMarked : Tables → Bool
-isMarked t =
-    every isMark (t .used) && every isMark (t .held) && every isMark (t .candidates) && every isMark (t .changed) && every isMark (t .snoops)
+unfoldable pub isMarked : Sizes → Tables → Bool
+isMarked s t =
+    isPacked (s .n) (t .used)
+    && isPacked (s .n) (t .held)
+    && isPacked (s .n) (t .candidates)
+    && isPacked (links s) (t .changed)
+    && every isMark (t .snoops)
 
 abbrev pub isZero : ℕ → Bool
 isZero x = eqb x 0
@@ -75,4 +85,4 @@ isSoundPool s p =
     && below (s .n) (λ a. eqb (countAt p (recordNumber (suc a))) (tally (countsFor p) (links s) (recordNumber (suc a))))
 
 unfoldable pub isSound : Sizes → Tables → Collector → Bool
-isSound s t c = isMarked t && isPadded s t && isSoundPool s (poolOf s t c)
+isSound s t c = isMarked s t && isPadded s t && isSoundPool s (poolOf s t c)

@@ -18,7 +18,8 @@ use Rattle.rules.specs.View.{allLogs, viewValue}
 use Rattle.rules.specs.Collect.{entryHere}
 use Rattle.rules.specs.Sound.{Sound, EntryInRange}
 use Rattle.tables.specs.Tables.{Tables}
-use Rattle.tables.specs.Lie.{isOn, poolOf}
+use Rattle.tables.specs.Bits.{wordCount, markAt}
+use Rattle.tables.specs.Lie.{poolOf}
 use Rattle.tables.specs.Known.{Known}
 use Rattle.tables.specs.Counted.{fewer}
 use Rattle.tables.proofs.Entered.{entryIn}
@@ -52,12 +53,13 @@ pub record Ready (s : Sizes) (t : Tables) (c : Collector) (w i : ℕ) : Type 0 w
   pub position : c .position < 8208
   -- the count that falls
   pub old : entryIn (t .history) i .old .0 ≤ length (t .counts)
-  pub candidates : length (t .candidates) ≡ length (t .counts)
+  pub candidates : length (t .candidates) ≡ wordCount (length (t .counts))
   pub counted : 1 ≤ entryIn (t .history) i .old .0 → 1 ≤ ofRecord (t .counts) (entryIn (t .history) i .old .0) 0
   -- the view value
-  pub value : entryIn (t .history) i .link .0 < length (t .values)
-  pub mark : entryIn (t .history) i .link .0 < length (t .changed)
-  pub one : isOn (getD (t .changed) (entryIn (t .history) i .link .0) 0) ≡ true → OneEntry s (t .logs) (t .lengths) (entryIn (t .history) i .link)
+  pub link : entryIn (t .history) i .link .0 < links s
+  pub value : length (t .values) ≡ links s
+  pub mark : length (t .changed) ≡ wordCount (links s)
+  pub one : markAt (t .changed) (entryIn (t .history) i .link .0) ≡ true → OneEntry s (t .logs) (t .lengths) (entryIn (t .history) i .link)
   -- its count, which rises once that of the old value fell
   pub view : viewValue (poolOf s t c) (entryIn (t .history) i .link) .0 ≤ length (fewer (entryIn (t .history) i .old .0) (t .counts))
   pub room : ofRecord (fewer (entryIn (t .history) i .old .0) (t .counts)) (viewValue (poolOf s t c) (entryIn (t .history) i .link) .0) 0 < 65535
@@ -109,10 +111,11 @@ module _ {s : Sizes} {t : Tables} {c : Collector} (known : Known s t c) (phase :
         entry = omega (arith, exact .history, there);
         position = omega (arith, there);
         old = omega (arith, exact .counts, in-range .old);
-        candidates = exact .candidates ∙ sym (exact .counts);
+        candidates = exact .candidates ∙ ap wordCount (sym (exact .counts));
         counted = subst (λ (e : Entry). 1 ≤ e .old .0 → 1 ≤ countAt p (e .old)) entry-here (old-has-count sound phase);
-        value = omega (arith, exact .values, in-range .link);
-        mark = omega (arith, exact .changed, in-range .link);
+        link = in-range .link;
+        value = exact .values;
+        mark = exact .changed;
         one =
             λ on.
             record {
@@ -120,7 +123,7 @@ module _ {s : Sizes} {t : Tables} {c : Collector} (known : Known s t c) (phase :
               logs = exact .logs;
               lengths = exact .lengths;
               low = length-known known;
-              one = one-entry sound (here .link) phase (in-range .link) (changed-stands s t c (here .link) ∙ on);
+              one = one-entry sound (here .link) phase (in-range .link) (changed-stands s t c (here .link) (in-range .link) ∙ on);
             };
         view = omega (arith, exact .counts, length-fewer (here .old .0) (t .counts));
         room = omega (arith, fewer-most (here .old .0) v (t .counts), count-low v low);

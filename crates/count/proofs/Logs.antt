@@ -2,7 +2,7 @@
 --     log-tables                  the tables of the logs are of the right size
 --     view-logged, view-plain     the view value, by the mark
 -- Assumes nothing.
-use Prim.Native.Nat.{ℕ, _≤_}
+use Prim.Native.Nat.{ℕ, _≤_, _<_}
 use mathlib.Core.Path.{_≡_, _∙_}
 use mathlib.Core.Bool.{true, false}
 use mathlib.Core.List.{List}
@@ -14,7 +14,8 @@ use Rattle.rules.specs.declared.Collector.{Collector}
 use Rattle.rules.specs.Size.{links}
 use Rattle.rules.specs.View.{lookUp, viewValue}
 use Rattle.tables.specs.Tables.{Tables}
-use Rattle.tables.specs.Lie.{isOn, recordNumber, logsIn, poolOf}
+use Rattle.tables.specs.Bits.{markAt}
+use Rattle.tables.specs.Lie.{recordNumber, logsIn, poolOf}
 use Rattle.tables.proofs.Logs.{LogTables}
 use Rattle.tables.proofs.Stand.{value-stands, changed-stands}
 use Rattle.laws.proofs.Lists.{Each-places}
@@ -34,10 +35,10 @@ log-tables {s} {table} {ns} h =
 
 -- ---- the view value
 
-module _ (s : Sizes) (t : Tables) (c : Collector) (l : LinkNumber) where
-  pub view-logged : isOn (getD (t .changed) (l .0) 0) ≡ true → viewValue (poolOf s t c) l ≡ lookUp l (logsIn s (t .logs) (t .lengths))
+module _ (s : Sizes) (t : Tables) (c : Collector) (l : LinkNumber) (inside : l .0 < links s) where
+  pub view-logged : markAt (t .changed) (l .0) ≡ true → viewValue (poolOf s t c) l ≡ lookUp l (logsIn s (t .logs) (t .lengths))
   unfolding poolOf
-  view-logged on = view-marked (poolOf s t c) l (changed-stands s t c l ∙ on)
+  view-logged on = view-marked (poolOf s t c) l (changed-stands s t c l inside ∙ on)
 
-  pub view-plain : isOn (getD (t .changed) (l .0) 0) ≡ false → viewValue (poolOf s t c) l ≡ recordNumber (getD (t .values) (l .0) 0)
-  view-plain off = view-unmarked (poolOf s t c) l (changed-stands s t c l ∙ off) ∙ value-stands s t c l
+  pub view-plain : markAt (t .changed) (l .0) ≡ false → viewValue (poolOf s t c) l ≡ recordNumber (getD (t .values) (l .0) 0)
+  view-plain off = view-unmarked (poolOf s t c) l (changed-stands s t c l inside ∙ off) ∙ value-stands s t c l

@@ -7,6 +7,7 @@ use Prim.Native.Nat.{ℕ, suc, _+_, _*_, _≤_, _<_}
 use mathlib.Core.Path.{_≡_, sym, ap, _∙_}
 use mathlib.Core.Bool.{cond}
 use mathlib.Core.List.{List, [], _++_}
+use mathlib.Core.Logic.{inr}
 use native.Mathlib.Omega.{arith}
 use borrow.Author.Tests.{le-leb, lt-leb}
 use lib.ListN.{length, getD, drop, set, replicate}
@@ -25,6 +26,7 @@ use Rattle.tables.specs.Counted.{fewer, fallen, more}
 use Rattle.tables.proofs.Entered.{entryIn}
 use Rattle.tables.proofs.RoundTrip.{known-back}
 use Rattle.tables.proofs.Done.{collect-is, moved-on}
+use Rattle.soundness.proofs.Known.{entry-below}
 use Rattle.count.proofs.Written.{counted-written, emptied-written}
 use Rattle.count.proofs.Entry.{history-entries, entry-here}
 
@@ -44,9 +46,13 @@ module _ {s : Sizes} {t : Tables} {c : Collector} (known : Known s t c) (phase :
   abbrev after : Pool
   after = counted (entryHere p) p
 
+  old-low : entryHere p .old .0 ≤ length (p .records .candidate)
+  unfolding poolOf
+  old-low = omega (arith, entry-below (known .tables .sound) (inr phase) .old, known .tables .sound .shaped .records .candidate)
+
   counted-tables : tablesOf s after ≡ countedIn s t c i
   counted-tables =
-      counted-written s p (entryHere p)
+      counted-written s p (entryHere p) old-low
       ∙ (λ j.
       let e : Entry = entry-here known phase worker position j in
       let u : Tables = known-back known j in

@@ -25,13 +25,13 @@ unfolding tablesOf rises more
 rises-written s p a = refl
 
 -- "first the count of old falls by 1, and at 0 it becomes a candidate; then the count of the link's view value rises by 1"
-pub counted-written : (s : Sizes) (p : Pool) (e : Entry) → let t : Tables = tablesOf s p in
+pub counted-written : (s : Sizes) (p : Pool) (e : Entry) → e .old .0 ≤ length (p .records .candidate) → let t : Tables = tablesOf s p in
     tablesOf s (counted e p)
     ≡ putCounts (more (viewValue p (e .link) .0) (fewer (e .old .0) (t .counts))) (putCandidates (fallen (e .old .0) (t .counts) (t .candidates)) t)
 unfolding counted falls viewValue
-counted-written s p e =
+counted-written s p e low =
     rises-written s (falls (e .old) p) (viewValue p (e .link))
-    ∙ ap (λ (t : Tables). putCounts (more (viewValue p (e .link) .0) (t .counts)) t) (falls-written s p (e .old))
+    ∙ ap (λ (t : Tables). putCounts (more (viewValue p (e .link) .0) (t .counts)) t) (falls-written s p (e .old) low)
 
 -- "the history is emptied"
 pub emptied-written : (s : Sizes) (p : Pool) → length (p .workers .log) ≡ s .w → length (p .history) ≤ links s → let t : Tables = tablesOf s p in

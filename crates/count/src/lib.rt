@@ -17,10 +17,12 @@ use tables::place::wide;
 ghost use mathlib.Core.Path.{_≡_};
 ghost use mathlib.Core.Bool.{true};
 ghost use Prim.Native.Nat.{ℕ, _*_, _≤_, _<_};
-ghost use lib.ListN.{length, getD};
+ghost use lib.ListN.{length};
+ghost use Rattle.rules.specs.Size.{links};
 ghost use Rattle.rules.specs.View.{times, oldIn, lookUp, viewValue};
 ghost use Rattle.tables.specs.Tables.{Tables};
-ghost use Rattle.tables.specs.Lie.{isOn, entries, logsIn, poolOf};
+ghost use Rattle.tables.specs.Bits.{wordCount, markAt};
+ghost use Rattle.tables.specs.Lie.{entries, logsIn, poolOf};
 ghost use Rattle.tables.specs.Event.{InPhase, Steps};
 ghost use Rattle.count.specs.Lent.{viewsOn, countsOn};
 ghost use Rattle.count.specs.Looked.{oldOr, OneEntry};
@@ -70,12 +72,12 @@ fn look_up(s: Sizes, logs: &[u16], lengths: &[u16], l: LinkNumber) -> RecordNumb
 fn view_value(
     s: Sizes,
     values: &[u16],
-    changed: &[u16],
+    changed: &[u64],
     logs: &[u16],
     lengths: &[u16],
     l: LinkNumber,
 ) -> RecordNumber
-    requires { ⌜ (l .0 < length (now values)) × (l .0 < length (now changed)) × (isOn (getD (now changed) (l .0) 0) ≡ true → OneEntry s (now logs) (now lengths) l) ⌝ }
+    requires { ⌜ (l .0 < links s) × (length (now values) ≡ links s) × (length (now changed) ≡ wordCount (links s)) × (markAt (now changed) (l .0) ≡ true → OneEntry s (now logs) (now lengths) l) ⌝ }
     ensures { λ x. ⌜ ((t : Tables) (c : Collector) → x ≡ viewValue (poolOf s (viewsOn (values .entry) (changed .entry) (logs .entry) (lengths .entry) t) c) l) ⌝ }
 {
     let link = wide(l.0);
@@ -90,9 +92,9 @@ fn view_value(
 pub fn counts(
     s: Sizes,
     counts: &mut [u16],
-    candidates: &mut [u16],
+    candidates: &mut [u64],
     values: &[u16],
-    changed: &[u16],
+    changed: &[u64],
     logs: &[u16],
     history: &mut [u16],
     lengths: &mut [u16],

@@ -13,6 +13,7 @@ use Rattle.rules.specs.declared.Sizes.{Sizes}
 use Rattle.rules.specs.Size.{links}
 use Rattle.rules.specs.Sound.{Each}
 use Rattle.laws.proofs.Tests.{and-left, and-right, and-both}
+use Rattle.tables.specs.Bits.{wordCount}
 use Rattle.tables.specs.Tables.{Tables}
 use Rattle.tables.specs.Lie.{room}
 use Rattle.tables.specs.Known.{Exact}
@@ -38,11 +39,11 @@ module _ (s : Sizes) (t : Tables) where
   others : List Bool
   others =
       eqb (length (t .counts)) (s .n)
-      ∷ eqb (length (t .held)) (s .n)
-      ∷ eqb (length (t .candidates)) (s .n)
+      ∷ eqb (length (t .held)) (wordCount (s .n))
+      ∷ eqb (length (t .candidates)) (wordCount (s .n))
       ∷ eqb (length (t .makers)) (s .n)
       ∷ eqb (length (t .values)) (links s)
-      ∷ eqb (length (t .changed)) (links s)
+      ∷ eqb (length (t .changed)) (wordCount (links s))
       ∷ eqb (length (t .registers)) (s .w * s .r + 1)
       ∷ eqb (length (t .snoops)) (s .w)
       ∷ eqb (length (t .logs)) (s .w * room s)
@@ -53,7 +54,7 @@ module _ (s : Sizes) (t : Tables) where
   pub exact-tells : isExact s t ≡ true → Exact s t
   unfolding isExact ands others
   exact-tells h =
-      let all = ands-each (eqb (length (t .used)) (s .n)) others h in
+      let all = ands-each (eqb (length (t .used)) (wordCount (s .n))) others h in
       let rest = all .1 in
       record {
         used = eqb-true _ _ (all .0);
@@ -73,7 +74,7 @@ module _ (s : Sizes) (t : Tables) where
   pub exact-true : Exact s t → isExact s t ≡ true
   unfolding isExact ands others
   exact-true e =
-      ands-all (eqb (length (t .used)) (s .n)) others (eq-eqb _ _ (e .used)) (
+      ands-all (eqb (length (t .used)) (wordCount (s .n))) others (eq-eqb _ _ (e .used)) (
         eq-eqb _ _ (e .counts),
         (
           eq-eqb _ _ (e .held),

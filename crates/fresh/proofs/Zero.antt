@@ -13,9 +13,11 @@ use lib.ListN.{length, replicate, replicate-append-replicate}
 use Rattle.rules.specs.declared.Sizes.{Sizes}
 use Rattle.rules.specs.Size.{links}
 use Rattle.rules.specs.Pool.{Entry, none, fresh}
+use Rattle.tables.specs.Bits.{wordCount}
 use Rattle.tables.specs.Tables.{Tables}
 use Rattle.tables.specs.Lie.{numbers, laid, room, tablesOf}
 use Rattle.tables.proofs.Entered.{laid-empty}
+use Rattle.tables.proofs.Packed.{all-off}
 
 map-replicate : {A B : Type 0} (f : A → B) (n : ℕ) (x : A) → map f (replicate n x) ≡ replicate n (f x)
 map-replicate f zero x = refl
@@ -33,13 +35,13 @@ joined-zeros (suc n) m =
 unfoldable pub zeroTables : Sizes → Tables
 zeroTables s =
     record {
-      used = replicate (s .n) 0;
+      used = replicate (wordCount (s .n)) 0;
       counts = replicate (s .n) 0;
-      held = replicate (s .n) 0;
-      candidates = replicate (s .n) 0;
+      held = replicate (wordCount (s .n)) 0;
+      candidates = replicate (wordCount (s .n)) 0;
       makers = replicate (s .n) 0;
       values = replicate (links s) 0;
-      changed = replicate (links s) 0;
+      changed = replicate (wordCount (links s)) 0;
       registers = replicate (s .w * s .r + 1) 0;
       snoops = replicate (s .w) 0;
       logs = replicate (s .w * room s) 0;
@@ -52,13 +54,13 @@ unfolding tablesOf fresh zeroTables
 fresh-zero s =
     λ j.
     record {
-      used = map-replicate bit (s .n) false j;
+      used = all-off (s .n) j;
       counts = replicate (s .n) 0;
-      held = map-replicate bit (s .n) false j;
-      candidates = map-replicate bit (s .n) false j;
+      held = all-off (s .n) j;
+      candidates = all-off (s .n) j;
       makers = replicate (s .n) 0;
       values = map-replicate (λ a. a .0) (links s) none j;
-      changed = map-replicate bit (links s) false j;
+      changed = all-off (links s) j;
       registers =
           (ap (λ (rows : List (List ℕ)). flatten rows ++ (0 ∷ []))
           (map-replicate numbers (s .w) (replicate (s .r) none) ∙ ap (replicate (s .w)) (map-replicate (λ a. a .0) (s .r) none))

@@ -11,6 +11,7 @@ use Rattle.rules.specs.declared.Refusal.{Refusal}
 use Rattle.rules.specs.declared.Answer.the-variants.{Refused}
 use Rattle.rules.specs.declared.Collector.{Collector}
 use Rattle.rules.specs.Size.{inRange, links}
+use Rattle.tables.specs.Bits.{wordCount}
 use Rattle.tables.specs.Tables.{Tables}
 use Rattle.tables.specs.Lie.{room}
 use Rattle.tables.specs.Event.{Called}
@@ -18,13 +19,13 @@ use Rattle.tables.specs.Event.{Called}
 -- "lent tables .. whose lengths must be exact"
 unfoldable pub isExact : Sizes → Tables → Bool
 isExact s t =
-    eqb (length (t .used)) (s .n)
+    eqb (length (t .used)) (wordCount (s .n))
     && eqb (length (t .counts)) (s .n)
-    && eqb (length (t .held)) (s .n)
-    && eqb (length (t .candidates)) (s .n)
+    && eqb (length (t .held)) (wordCount (s .n))
+    && eqb (length (t .candidates)) (wordCount (s .n))
     && eqb (length (t .makers)) (s .n)
     && eqb (length (t .values)) (links s)
-    && eqb (length (t .changed)) (links s)
+    && eqb (length (t .changed)) (wordCount (links s))
     && eqb (length (t .registers)) (s .w * s .r + 1)
     && eqb (length (t .snoops)) (s .w)
     && eqb (length (t .logs)) (s .w * room s)

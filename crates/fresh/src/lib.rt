@@ -8,25 +8,26 @@ use rules::Collector;
 use rules::Refusal;
 use rules::Sizes;
 use tables::list::clear;
-use tables::mark::is_on;
+use tables::mark::clear_marks;
+use tables::mark::count_off;
 use tables::place::in_range;
+use tables::place::wide;
 ghost use mathlib.Core.Path.{_≡_};
-ghost use Rattle.rules.specs.Outcome.{freeMarks};
 ghost use Rattle.tables.specs.Tables.{lent};
-ghost use Rattle.tables.specs.Lie.{marks};
 ghost use Rattle.fresh.specs.Fits.{isExact, fits};
+ghost use Rattle.fresh.specs.Free.{freeIn};
 ghost use Rattle.fresh.specs.Fresh.{madeFresh};
 
 // "lent tables .. whose lengths must be exact"
 fn is_exact(
     s: Sizes,
-    used: &[u16],
+    used: &[u64],
     counts: &[u16],
-    held: &[u16],
-    candidates: &[u16],
+    held: &[u64],
+    candidates: &[u64],
     makers: &[u16],
     values: &[u16],
-    changed: &[u16],
+    changed: &[u64],
     registers: &[u16],
     snoops: &[u16],
     logs: &[u16],
@@ -39,13 +40,15 @@ fn is_exact(
     let links = (s.n as usize) * (s.k as usize) + (s.b as usize);
     let workers = s.w as usize;
     let places = (s.w as usize) * (s.r as usize);
-    (used.len() == records)
+    let words = (records + 63) / 64;
+    let link_words = (links + 63) / 64;
+    (used.len() == words)
         & (counts.len() == records)
-        & (held.len() == records)
-        & (candidates.len() == records)
+        & (held.len() == words)
+        & (candidates.len() == words)
         & (makers.len() == records)
         & (values.len() == links)
-        & (changed.len() == links)
+        & (changed.len() == link_words)
         & (registers.len() == places + 1)
         & (snoops.len() == workers)
         & (logs.len() == workers * (links * 2))
@@ -56,13 +59,13 @@ fn is_exact(
 // "1: a size is out of its range, or a lent table has another length": it is not so. Inner.
 pub fn has_shape(
     s: Sizes,
-    used: &[u16],
+    used: &[u64],
     counts: &[u16],
-    held: &[u16],
-    candidates: &[u16],
+    held: &[u64],
+    candidates: &[u64],
     makers: &[u16],
     values: &[u16],
-    changed: &[u16],
+    changed: &[u64],
     registers: &[u16],
     snoops: &[u16],
     logs: &[u16],
@@ -93,13 +96,13 @@ pub fn has_shape(
 // out: one that leaves what stood in a table, and one that clears the tables of wrong lengths too.
 pub fn fresh(
     s: Sizes,
-    used: &mut [u16],
+    used: &mut [u64],
     counts: &mut [u16],
-    held: &mut [u16],
-    candidates: &mut [u16],
+    held: &mut [u64],
+    candidates: &mut [u64],
     makers: &mut [u16],
     values: &mut [u16],
-    changed: &mut [u16],
+    changed: &mut [u64],
     registers: &mut [u16],
     snoops: &mut [u16],
     logs: &mut [u16],
@@ -130,13 +133,13 @@ pub fn fresh(
             collector: c,
         };
     }
-    clear(used);
+    clear_marks(used);
     clear(counts);
-    clear(held);
-    clear(candidates);
+    clear_marks(held);
+    clear_marks(candidates);
     clear(makers);
     clear(values);
-    clear(changed);
+    clear_marks(changed);
     clear(registers);
     clear(snoops);
     clear(logs);
@@ -152,18 +155,11 @@ pub fn fresh(
     }
 }
 
-// How many records are free, by the table of used marks. Two wrong programs that the contract rules out: one that answers the table's length, and one that stops
-// counting at the first used record.
-pub fn free_records(used: &[u16]) -> usize
-    ensures { λ x. ⌜ x ≡ freeMarks (marks (now (used .entry))) ⌝ }
+// How many records are free, of n in words of used marks: "the number of free records comes from the number of ones" (document 02, request 9). It is n less the ones,
+// whatever words these are; where there are more ones, 0. Two wrong programs that the contract rules out: one that answers n, and one that stops counting
+// behind the first word.
+pub fn free_records(n: u16, used: &[u64]) -> usize
+    ensures { λ x. ⌜ x ≡ freeIn n (now (used .entry)) ⌝ }
 {
-    let mut free = 0;
-    let mut i = 0;
-    while i < used.len() {
-        if !is_on(used, i) {
-            free += 1;
-        }
-        i += 1;
-    }
-    free
+    wide(count_off(used, n))
 }

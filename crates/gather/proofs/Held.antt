@@ -1,10 +1,11 @@
--- The held marks of the records in some registers, in their table.
+-- The held marks of the records in some registers, in their words.
+--     length-record  a record's mark changes no number of words
 --     held-next      one register more
---     held-marks     the marks of the pool that the table means
+--     held-marks     the words of the marks of the pool
 -- Assumes nothing.
 use Prim.Native.Nat.{ℕ, zero, suc, _+_, _≤_, _<_}
-use mathlib.Core.Path.{_≡_, sym, ap, _∙_}
-use mathlib.Core.Bool.{Bool}
+use mathlib.Core.Path.{_≡_, refl, ap, _∙_}
+use mathlib.Core.Bool.{Bool, true}
 use mathlib.Core.List.{List, [], _∷_}
 use native.Mathlib.Omega.{arith}
 use native.Mathlib.Numerals.{add-one}
@@ -13,20 +14,25 @@ use lib.Seq.{drop-cons}
 use Rattle.rules.specs.Pool.{withRecord}
 use Rattle.rules.specs.Collect.{heldBy}
 use Rattle.rules.specs.Sound.{Each}
-use Rattle.laws.proofs.Lists.{Each-set, map-set}
-use Rattle.tables.specs.Lie.{isOn, marks, bits, recordNumbers}
-use Rattle.tables.proofs.Marks.{bits-marks}
+use Rattle.laws.proofs.Lists.{length-withRecord}
+use Rattle.tables.specs.Bits.{wordsOf, markRecord}
+use Rattle.tables.specs.Lie.{recordNumbers}
+use Rattle.tables.proofs.Packed.{length-marked, record-written}
 use Rattle.gather.specs.Raw.{heldIn}
 
+pub length-record : (words : List ℕ) (a : ℕ) (b : Bool) → length (markRecord words a b) ≡ length words
+length-record words zero b = refl
+length-record words (suc i) b = length-marked words i b
+
 pub held-next : (registers held : List ℕ) (r : ℕ) → r < length registers
-    → heldIn (drop (r + 1) registers) (withRecord held (getD registers r 0) 1) ≡ heldIn (drop r registers) held
+    → heldIn (drop (r + 1) registers) (markRecord held (getD registers r 0) true) ≡ heldIn (drop r registers) held
 unfolding heldIn
 held-next registers held r h = rw (add-one, drop-cons registers r 0)
 
-pub held-marks : (registers held : List ℕ) → Each (λ x. x ≤ 1) held → bits (heldBy (recordNumbers registers) (marks held)) ≡ heldIn registers held
+pub held-marks : (n : ℕ) (registers : List ℕ) (on : List Bool) → length on ≡ n → Each (λ a. a ≤ n) registers
+    → wordsOf (heldBy (recordNumbers registers) on) ≡ heldIn registers (wordsOf on)
 unfolding heldIn heldBy
-held-marks [] held low = bits-marks held low
-held-marks (zero ∷ registers) held low = held-marks registers held low
-held-marks (suc i ∷ registers) held low =
-    ap (λ (on : List Bool). bits (heldBy (recordNumbers registers) on)) (sym (map-set isOn held i 1))
-    ∙ held-marks registers (withRecord held (suc i) 1) (Each-set (λ x. x ≤ 1) held i 1 low (omega arith))
+held-marks n [] on e low = refl
+held-marks n (a ∷ registers) on e low =
+    held-marks n registers (withRecord on a true) (length-withRecord on a true ∙ e) (low .1)
+    ∙ ap (heldIn registers) (record-written on a true (omega (arith, low .0)))

@@ -23,18 +23,20 @@ use Rattle.rules.specs.Pool.{Entry, Pool, registersAt, withHeld, withChanged, w
 use Rattle.rules.specs.View.{bit}
 use Rattle.rules.specs.Collect.{entryHere, advanced, onward, stepped, opens, snoops, clears, heldBy, scans, phases}
 use Rattle.tables.specs.Tables.{Tables, putHeld, putChanged, putSnoops}
-use Rattle.tables.specs.Lie.{bits, poolOf, tablesOf}
+use Rattle.tables.specs.Bits.{wordsOf, marked}
+use Rattle.tables.specs.Lie.{poolOf, tablesOf}
 use Rattle.tables.specs.Known.{Known}
 use Rattle.tables.specs.Event.{Called, written, eventOn}
 use Rattle.tables.proofs.RoundTrip.{known-back}
 use Rattle.tables.proofs.Stand.{row-stands, history-length}
+use Rattle.tables.proofs.Packed.{words-marks}
 use Rattle.tables.proofs.Written.{changed-written, snoop-written}
 use Rattle.tables.proofs.Done.{collect-is, moved-on}
 use Rattle.advance.specs.Moved.{MovesTo}
 use Rattle.advance.proofs.Moved.{others-move}
 use Rattle.gather.specs.Raw.{heldIn}
 use Rattle.gather.proofs.Held.{held-marks}
-use Rattle.gather.proofs.Here.{position-known, entry-known}
+use Rattle.gather.proofs.Here.{position-known, entry-known, row-known}
 
 abbrev pub called : Answered → Tables → Called
 called x after = record { answer = x .answer; collector = x .collector; tables = after }
@@ -92,16 +94,16 @@ module _ {s : Sizes} {t : Tables} {c : Collector} (known : Known s t c) where
   snoops-on e flags moved = moves-on s t c (s .w) (withSnoop (c .position) true p) e refl (flag-written true flags) (history-length s t c) moved
 
   pub clears-on : {x : Answered} {marks : List ℕ} → c .phase ≡ 3
-      → marks ≡ set (t .changed) (getD (t .history) (c .position * 2) 0) 0
+      → marks ≡ marked (t .changed) (getD (t .history) (c .position * 2) 0) false
       → Onward (getD (t .lengths) (s .w) 0) (getD (t .lengths) (s .w) 0) c x
       → eventOn s t c Collect ≡ called x (putChanged marks t)
   unfolding phases clears poolOf
   clears-on e same moved =
       let l : LinkNumber = entryHere p .link in
       moves-on s t c (length (p .history)) (withChanged l false p) e refl
-      (changed-written s p l false
-      ∙ ap (λ (u : Tables). putChanged (set (u .changed) (l .0) 0) u) (known-back known)
-      ∙ ap (λ (marks : List ℕ). putChanged marks t) (ap (λ (e : Entry). set (t .changed) (e .link .0) 0) (entry-known known (inl e) .0) ∙ sym same))
+      (changed-written s p l false (omega (arith, entry-known known (inl e) .1 .link, ap (λ (x : Entry). x .link .0) (entry-known known (inl e) .0), known .tables .sound .shaped .links .changed))
+      ∙ ap (λ (u : Tables). putChanged (marked (u .changed) (l .0) false) u) (known-back known)
+      ∙ ap (λ (marks : List ℕ). putChanged marks t) (ap (λ (x : Entry). marked (t .changed) (x .link .0) false) (entry-known known (inl e) .0) ∙ sym same))
       (history-length s t c)
       (rw (history-length s t c) moved)
 
@@ -116,8 +118,9 @@ module _ {s : Sizes} {t : Tables} {c : Collector} (known : Known s t c) where
       moves-on s t c (s .w) (withHeld (heldBy (registersAt p w) (p .records .held)) (withSnoop w false p)) e refl
       (λ j.
       putHeld
-      ((ap (λ (names : List RecordNumber). bits (heldBy names (p .records .held))) (row-stands s t c w (position-known known 4 e))
-      ∙ held-marks (take (s .r) (drop (w * s .r) (t .registers))) (t .held) (known .tables .marked .held)
+      ((ap (λ (names : List RecordNumber). wordsOf (heldBy names (p .records .held))) (row-stands s t c w (position-known known 4 e))
+      ∙ held-marks (s .n) (take (s .r) (drop (w * s .r) (t .registers))) (p .records .held) (known .tables .sound .shaped .records .held) (row-known known e)
+      ∙ ap (heldIn (take (s .r) (drop (w * s .r) (t .registers)))) (words-marks (s .n) (t .held) (known .exact .held) (known .tables .marked .held))
       ∙ sym same) j)
       (flag-written false flags j))
       (history-length s t c)

@@ -22,15 +22,16 @@ use Rattle.rules.specs.Sound.{ShapedWorkers}
 use Rattle.laws.proofs.Lists.{map-set, map-at}
 use Rattle.soundness.proofs.Known.{history-has-room}
 use Rattle.tables.specs.Tables.{Tables, putCandidates, putMakers, putLogs, putHistory, putLengths}
-use Rattle.tables.specs.Lie.{bits, laid, room, poolOf, tablesOf}
+use Rattle.tables.specs.Bits.{wordsOf, withStanding}
+use Rattle.tables.specs.Lie.{laid, room, poolOf, tablesOf}
 use Rattle.tables.specs.Known.{Known}
 use Rattle.tables.specs.Event.{eventOn}
 use Rattle.tables.proofs.Blocks.{Sized, cut-at, cut-joined}
 use Rattle.tables.proofs.Entered.{laid-joined, laid-emptied}
 use Rattle.tables.proofs.RoundTrip.{sized-logs, known-back}
+use Rattle.tables.proofs.Standing.{with-marks}
 use Rattle.tables.proofs.Stand.{log-length, history-length}
-use Rattle.gather.specs.Raw.{unmade, madeCandidates}
-use Rattle.gather.proofs.Made.{made-marks}
+use Rattle.gather.specs.Raw.{unmade}
 use Rattle.gather.proofs.Here.{position-known}
 use Rattle.gather.proofs.Moves.{called, Onward, moves-on}
 
@@ -122,7 +123,7 @@ log-taken s p w shaped k fits =
 
 -- what the step makes of the tables that it is lent, t being all of them
 pub record Taken (s : Sizes) (t : Tables) (w : ℕ) (cs ms ls hs ns : List ℕ) : Type 0 where
-  pub candidates : cs ≡ madeCandidates w (t .makers) (t .candidates)
+  pub candidates : cs ≡ withStanding (w + 1) (t .makers) (t .candidates)
   pub makers : ms ≡ unmade w (t .makers)
   pub logs : let n : ℕ = getD (t .lengths) w 0 in ls ≡ take (w * room s) (t .logs) ++ (replicate (n * 2) 0 ++ drop (n * 2) (drop (w * room s) (t .logs)))
   pub history : hs ≡ paste (t .history) (getD (t .lengths) (s .w) 0 * 2) (drop (w * room s) (t .logs)) (getD (t .lengths) w 0 * 2)
@@ -140,11 +141,11 @@ takes-on {s} {t} {c} known e taken moved =
     let n : length (logAt p w) ≡ getD (t .lengths) w 0 = log-length s t c known w worker in
     let m : length (p .history) ≡ getD (t .lengths) (s .w) 0 = history-length s t c in
     moves-on s t c (s .w) (madeBy w (withLog w [] (withHistory (p .history ++ logAt p w) p))) e refl
-    (ap (λ (u : Tables). putCandidates (bits (madeBy w p .records .candidate)) (putMakers (unmade w (t .makers)) u))
+    (ap (λ (u : Tables). putCandidates (wordsOf (madeBy w p .records .candidate)) (putMakers (unmade w (t .makers)) u))
     (log-taken s p w (known .tables .sound .shaped .workers) worker (history-has-room (known .tables .sound) w e worker)
     ∙ (λ j. takenIn s w (n j) (m j) (known-back known j)))
     ∙ (λ j.
-    putCandidates ((made-marks w (t .makers) (t .candidates) (known .tables .marked .candidates) ∙ sym (taken .candidates)) j)
+    putCandidates ((with-marks (s .n) (w + 1) (t .makers) (t .candidates) (known .exact .makers) (known .exact .candidates) (known .tables .marked .candidates) ∙ sym (taken .candidates)) j)
     (putMakers (sym (taken .makers) j) (putLogs (sym (taken .logs) j) (putHistory (sym (taken .history) j) (putLengths (sym (taken .lengths) j) t))))))
     (length-append (p .history) (logAt p w) ∙ (λ j. m j + n j))
     moved

@@ -1,7 +1,7 @@
 // Phases 0 to 4 of the collector, each on the tables that it touches, of a pool that is known to be sound. All of it is inner (decision 4 of
 // docs/DECISIONS.md).
 //     opens, snoops, takes, clears, scans    the steps; each has the name of its definition in rules/specs/Collect.antt
-//     made_by, held_by                       what phases 2 and 4 do to the records
+//     made_by, clear_maker, held_by          what phases 2 and 4 do to the records
 use advance::onward;
 use advance::stepped;
 use rules::Answered;
@@ -9,19 +9,22 @@ use rules::Collector;
 use rules::LinkNumber;
 use rules::RecordNumber;
 use rules::Sizes;
+use tables::flag::set_flag;
 use tables::list::clear;
 use tables::list::copy;
+use tables::mark::mark_standing;
 use tables::mark::set_mark;
 use tables::place::log_place;
 use tables::place::register_place;
 use tables::place::wide;
 ghost use mathlib.Core.Path.{_≡_};
-ghost use Prim.Native.Nat.{_≤_};
+ghost use Prim.Native.Nat.{_+_, _*_, _≤_};
 ghost use lib.ListN.{length};
 ghost use Rattle.rules.specs.Sound.{Each};
+ghost use Rattle.tables.specs.Bits.{wordCount, withStanding};
 ghost use Rattle.tables.specs.Event.{InPhase, Steps};
 ghost use Rattle.gather.specs.Lent.{snoopsOn, takesOn, clearsOn, scansOn};
-ghost use Rattle.gather.specs.Raw.{unmade, madeCandidates, heldIn};
+ghost use Rattle.gather.specs.Raw.{unmade, heldIn};
 
 // "Phase 0: open the cycle: phase 1, position 0."
 pub fn opens(s: Sizes, c: Collector) -> Answered
@@ -36,31 +39,39 @@ pub fn snoops(s: Sizes, snoops: &mut [u16], lengths: &[u16], c: Collector) -> An
     requires { ⌜ InPhase 1 s (snoopsOn snoops lengths) c ⌝ }
     ensures { λ x. ⌜ Steps 1 s (snoopsOn (snoops .entry) (lengths .entry)) c x (snoopsOn (snoops .exit) (lengths .entry)) ⌝ }
 {
-    set_mark(snoops, wide(c.position), true);
+    set_flag(snoops, wide(c.position), true);
     let entries = lengths[wide(s.w)];
     stepped(onward(c, s.w, entries))
 }
 
-// "every record of which it is maker becomes a candidate with maker 0", without a branch: `made` is 1 at such a record and 0 at any other.
-fn made_by(candidates: &mut [u16], makers: &mut [u16], w: u16)
-    requires { ⌜ (length (now candidates) ≡ length (now makers)) × (w ≤ 7) ⌝ }
-    ensures { λ _. ⌜ (now (makers .exit) ≡ unmade w (now (makers .entry))) × (now (candidates .exit) ≡ madeCandidates w (now (makers .entry)) (now (candidates .entry))) ⌝ }
+// ".. with maker 0", without a branch: what is multiplied by 0 is gone, and what is multiplied by 1 stays.
+fn clear_maker(makers: &mut [u16], w: u16)
+    requires { ⌜ w ≤ 7 ⌝ }
+    ensures { λ _. ⌜ now (makers .exit) ≡ unmade w (now (makers .entry)) ⌝ }
 {
     let maker = w + 1;
     let mut i = 0;
     while i < makers.len() {
         let made = (makers[i] == maker) as u16;
         let other = 1 - made;
-        candidates[i] = candidates[i] * other + made;
         makers[i] = makers[i] * other;
         i += 1;
     }
 }
 
+// "every record of which it is maker becomes a candidate with maker 0"
+fn made_by(candidates: &mut [u64], makers: &mut [u16], w: u16)
+    requires { ⌜ (length (now candidates) ≡ wordCount (length (now makers))) × (length (now makers) ≤ 1024) × (w ≤ 7) ⌝ }
+    ensures { λ _. ⌜ (now (makers .exit) ≡ unmade w (now (makers .entry))) × (now (candidates .exit) ≡ withStanding (w + 1) (now (makers .entry)) (now (candidates .entry))) ⌝ }
+{
+    mark_standing(candidates, makers, w + 1);
+    clear_maker(makers, w);
+}
+
 // "Phase 2: that worker's log is added at the end of the history and emptied; every record of which it is maker becomes a candidate with maker 0."
 pub fn takes(
     s: Sizes,
-    candidates: &mut [u16],
+    candidates: &mut [u64],
     makers: &mut [u16],
     logs: &mut [u16],
     history: &mut [u16],
@@ -89,7 +100,7 @@ pub fn takes(
 // "Phase 3: changed mark off for the link of the history entry at the position."
 pub fn clears(
     s: Sizes,
-    changed: &mut [u16],
+    changed: &mut [u64],
     history: &[u16],
     lengths: &[u16],
     c: Collector,
@@ -105,8 +116,8 @@ pub fn clears(
 }
 
 // "every record in its registers is held"
-fn held_by(held: &mut [u16], registers: &[u16])
-    requires { ⌜ Each (λ a. a ≤ length (now held)) (now registers) ⌝ }
+fn held_by(held: &mut [u64], registers: &[u16])
+    requires { ⌜ Each (λ a. a ≤ length (now held) * 64) (now registers) ⌝ }
     ensures { λ _. ⌜ now (held .exit) ≡ heldIn (now (registers .entry)) (now (held .entry)) ⌝ }
 {
     let mut r = 0;
@@ -122,7 +133,7 @@ fn held_by(held: &mut [u16], registers: &[u16])
 // "Phase 4: that worker's snoop flag off; every record in its registers is held."
 pub fn scans(
     s: Sizes,
-    held: &mut [u16],
+    held: &mut [u64],
     registers: &[u16],
     snoops: &mut [u16],
     lengths: &[u16],
@@ -133,7 +144,7 @@ pub fn scans(
         (scansOn (held .exit) (registers .entry) (snoops .exit) (lengths .entry)) ⌝ }
 {
     let w = c.position;
-    set_mark(snoops, wide(w), false);
+    set_flag(snoops, wide(w), false);
     let from = register_place(s, w, 0);
     let to = from + wide(s.r);
     held_by(held, &registers[from..to]);

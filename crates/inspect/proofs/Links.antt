@@ -23,7 +23,7 @@ use Rattle.tables.specs.Tables.{Tables}
 use Rattle.tables.specs.Lie.{entries, logsIn}
 use Rattle.laws.proofs.Number.{links-most}
 use Rattle.laws.proofs.Lists.{Each-at}
-use Rattle.clauses.specs.IsSound.{every, isMark, isZero}
+use Rattle.clauses.specs.IsSound.{every, isPacked, isZero}
 use Rattle.clauses.specs.Entered.{Noted, once, outstanding, enteredAll}
 use Rattle.clauses.specs.Tallied.{tallied}
 use Rattle.clauses.specs.Inspected.{phaseFits, countedTo, unclearedFrom, paddedLogs, valued, notedLinks, marksMatch, countsMatch, linksFit}
@@ -145,31 +145,31 @@ module _ {s : Sizes} {t : Tables} {c : Collector} (fits : Fits s t c) {to from e
       ∙ ap rest (part-noted s same once (cleared-part fits cut) seen₃ last₃ (counted && taken && logged) fourth)
       ∙ part-noted s same outstanding (uncleared-part fits cut) seen₄ last₄ (counted && taken && logged && cleared) fifth
 
-  pub links-checked : {passed padded flagged marked matched : Bool} {tally : List ℕ}
+  pub links-checked : {passed padded unused marked matched : Bool} {tally : List ℕ}
       → passed ≡ (logged && paddedLogs s (t .logs) (t .lengths))
       → padded ≡ every isZero (take (length (t .history) - end * 2) (drop (end * 2) (t .history)))
-      → flagged ≡ every isMark (t .changed)
-      → marked ≡ marksMatch (t .changed) seen₅
+      → unused ≡ isPacked many (t .changed)
+      → marked ≡ marksMatch many (t .changed) seen₅
       → tally ≡ tallied last₅ many (replicate 8320 0)
       → matched ≡ countsMatch (t .counts) tally
-      → (counted && taken && passed && cleared && uncleared && padded && flagged && marked && matched) ≡ linksFit s t c
+      → (counted && taken && passed && cleared && uncleared && padded && unused && marked && matched) ≡ linksFit s t c
   unfolding linksFit
-  links-checked {passed} {padded} {flagged} {marked} {matched} {tally} p z f m l k =
+  links-checked {passed} {padded} {unused} {marked} {matched} {tally} p z f m l k =
       let logs : Bool = paddedLogs s (t .logs) (t .lengths) in
-      ap (λ (b : Bool). b && padded && flagged && marked && matched)
+      ap (λ (b : Bool). b && padded && unused && marked && matched)
       (ap (λ (b : Bool). counted && taken && b && cleared && uncleared) p ∙ and-late (counted && taken) logged logs cleared uncleared)
       ∙ (λ j.
       counted && taken && logged && cleared && uncleared
       && logs
       && (z ∙ ap (every isZero) (rest-part fits cut)) j
-      && f j
-      && m j
+      && (f ∙ ap (λ (n : ℕ). isPacked n (t .changed)) same) j
+      && (m ∙ ap (λ (n : ℕ). marksMatch n (t .changed) seen₅) same) j
       && (k ∙ ap (countsMatch (t .counts)) (l ∙ ap (λ (n : ℕ). tallied last₅ n (replicate 8320 0)) same)) j)
       ∙ (λ j.
       let x : Noted = sym links-noted j in
       x .ok
       && logs
       && every isZero (drop (entriesOf s t * 2) (t .history))
-      && every isMark (t .changed)
-      && marksMatch (t .changed) (x .seen)
+      && isPacked (links s) (t .changed)
+      && marksMatch (links s) (t .changed) (x .seen)
       && countsMatch (t .counts) (tallied (x .last) (links s) (replicate 8320 0)))

@@ -1,7 +1,7 @@
 -- A test of each number of a table, and of each place below another, as a loop adds it up.
 --     every-more, every-all     of one more of the numbers, and of all
 --     every-each                what a test of all of them tells of each
---     below-more                of one place more
+--     below-more, below-parts   of one place more, and of some places more
 --     zero-more                 numbers of which each is 0, by their `or`
 -- Assumes nothing.
 use Prim.Native.Nat.{ℕ, zero, suc, _+_, _≤_, _<_}
@@ -48,6 +48,14 @@ module _ {A : Type 0} (test : A → Bool) where
 pub below-more : (test : ℕ → Bool) (i : ℕ) {ok : Bool} → ok ≡ below i test → (ok && test i) ≡ below (i + 1) test
 unfolding below
 below-more test i so-far = ap (λ b. b && test i) so-far ∙ ap (λ (n : ℕ). below n test) (sym (add-one i))
+
+pub below-parts : (test : ℕ → Bool) (m n : ℕ) → below (m + n) test ≡ (below m test && below n (λ i. test (m + i)))
+unfolding below
+below-parts test m zero = ap (λ (k : ℕ). below k test) (let e : m + 0 ≡ m = omega arith in e) ∙ sym (and-true (below m test))
+below-parts test m (suc n) =
+    ap (λ (k : ℕ). below k test) (let e : m + suc n ≡ suc (m + n) = omega arith in e)
+    ∙ ap (λ b. b && test (m + n)) (below-parts test m n)
+    ∙ and-assoc (below m test) (below n (λ i. test (m + i))) (test (m + n))
 
 -- ---- numbers that are 0
 

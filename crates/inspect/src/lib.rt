@@ -3,34 +3,38 @@
 // docs/DECISIONS.md): the public call is `pool::sound`.
 //     inspect                                    the check, on tables of exact lengths
 //     at_most, all_zero                          numbers that are at most another, and that are 0
+//     unused_off                                 words whose unused bits are 0
 //     phase_fits, counted_to, uncleared_from     the collector's record, and where it parts the history
 //     place_of                                   the place of a link
 //     enter, enter_logs, take_values             the entries of a list, of all logs, and the links' values are noted
-//     marks_match                                each changed mark against what was seen of its link
+//     marks_match, word_matches                  each changed mark against what was seen of its link
+//     whole_matches, seen_once, seen_word        64 of them at once
 //     tally_link, tally_fours, tally_links       how many links count for each record
 //     counts_match                               each count against the tally of its record
 //     numbers_fit, links_fit                     the parts of the check
 use rules::Collector;
 use rules::Sizes;
+use tables::mark::has_bit;
 use tables::place::link_count;
 use tables::place::log_place;
 use tables::place::wide;
 ghost use mathlib.Core.Path.{_≡_};
 ghost use mathlib.Core.Bool.{true, _&&_};
-ghost use mathlib.Core.List.{List, flatten};
+ghost use mathlib.Core.List.{List, map, flatten};
 ghost use Prim.Native.Nat.{ℕ, _+_, _*_, _%_, _≤_, _<_};
 ghost use lib.Dec.{leb};
-ghost use lib.ListN.{length, replicate};
+ghost use lib.ListN.{length, getD, drop, replicate};
 ghost use Rattle.rules.specs.Size.{inRange, links};
 ghost use Rattle.rules.specs.Sound.{Each};
+ghost use Rattle.tables.specs.Bits.{number, wordCount};
 ghost use Rattle.tables.specs.Tables.{Tables, lent};
 ghost use Rattle.tables.specs.Lie.{entries, room, logsIn};
 ghost use Rattle.tables.specs.Known.{Exact};
-ghost use Rattle.clauses.specs.IsSound.{every, isZero};
+ghost use Rattle.clauses.specs.IsSound.{every, below, isPacked, isZero};
 ghost use Rattle.clauses.specs.Entered.{RoomFor, placeOf, enteredAll};
 ghost use Rattle.clauses.specs.Tallied.{raised, tallied};
 ghost use Rattle.clauses.specs.Inspected.{phaseFits, countedTo, unclearedFrom, paddedLogs, valued, marksMatch, countsMatch, linksFit, numbersFit, inspected};
-ghost use Rattle.inspect.specs.Lent.{numbersOn, linksOn, LinksToFit};
+ghost use Rattle.inspect.specs.Lent.{numbersOn, linksOn, matches, isOnce, isStanding, LinksToFit};
 
 // Every number of a table is at most another.
 fn at_most(xs: &[u16], most: u16) -> bool
@@ -56,6 +60,19 @@ fn all_zero(xs: &[u16]) -> bool
         i += 1;
     }
     any == 0
+}
+
+// "A sound pool has the unused bits at 0" (document 02, request 9): of n marks in their words only the last word can have some.
+fn unused_off(words: &[u64], n: u16) -> bool
+    requires { ⌜ length (now words) ≡ wordCount n ⌝ }
+    ensures { λ x. ⌜ x ≡ isPacked n (now (words .entry)) ⌝ }
+{
+    let end = wide(n);
+    let rest = end % 64;
+    if rest == 0 {
+        return true;
+    }
+    words[end / 64] >> rest == 0
 }
 
 // Phase and position fit each other and the number of entries in the history.
@@ -175,20 +192,83 @@ fn take_values(last: &mut [u16; 8208], values: &[u16], records: u16) -> bool
     ok
 }
 
-// Each changed mark is how often its link stands among the logs and the uncleared history, and no link stands twice in the history.
-fn marks_match(changed: &[u16], seen: &[u32; 8208]) -> bool
-    requires { ⌜ length (now changed) ≤ 8208 ⌝ }
-    ensures { λ x. ⌜ x ≡ marksMatch (now (changed .entry)) (now (seen .entry)) ⌝ }
+// The changed marks of so many links of a word, each against what was seen of its link.
+fn word_matches(changed: &[u64], seen: &[u32; 8208], at: usize, many: usize) -> bool
+    requires { ⌜ (at < length (now changed)) × (many ≤ 64) × (at * 64 + many ≤ 8208) ⌝ }
+    ensures { λ x. ⌜ x ≡ below many (λ i. matches (now (changed .entry)) (now (seen .entry)) (at * 64 + i)) ⌝ }
 {
+    let word = changed[at];
+    let from = at * 64;
     let mut ok = true;
-    let mut l = 0;
-    while l < changed.len() {
-        let times = seen[l];
-        let mark = changed[l] as u32;
+    let mut i = 0;
+    while i < many {
+        let times = seen[from + i];
+        let mark = has_bit(word, i) as u32;
         ok = ok & ((times % 131072 == mark) & (times < 262144));
-        l += 1;
+        i += 1;
     }
     ok
+}
+
+// Of 64 links none was seen twice among the logs and the uncleared history, nor in the history.
+fn seen_once(seen: &[u32; 8208], from: usize) -> bool
+    requires { ⌜ from + 64 ≤ 8208 ⌝ }
+    ensures { λ x. ⌜ x ≡ below 64 (λ i. isOnce (getD (now (seen .entry)) (from + i) 0)) ⌝ }
+{
+    let mut ok = true;
+    let mut i = 0;
+    while i < 64 {
+        let times = seen[from + i];
+        ok = ok & ((times % 131072 <= 1) & (times < 262144));
+        i += 1;
+    }
+    ok
+}
+
+// The word of 64 links, those that were seen among the logs and the uncleared history: two halves side by side.
+fn seen_word(seen: &[u32; 8208], from: usize) -> u64
+    requires { ⌜ from + 64 ≤ 8208 ⌝ }
+    ensures { λ x. ⌜ x ≡ number 64 (map isStanding (drop from (now (seen .entry)))) ⌝ }
+{
+    let mut low = 0u32;
+    let mut high = 0u32;
+    let mut i = 0;
+    while i < 32 {
+        low = low | (((seen[from + i] % 131072 == 1) as u32) << i);
+        high = high | (((seen[from + 32 + i] % 131072 == 1) as u32) << i);
+        i += 1;
+    }
+    (low as u64) | ((high as u64) << 32)
+}
+
+// The changed marks of a whole word: each link was seen at most once, and where it was, there is a mark.
+fn whole_matches(changed: &[u64], seen: &[u32; 8208], at: usize) -> bool
+    requires { ⌜ (at < length (now changed)) × (at * 64 + 64 ≤ 8208) ⌝ }
+    ensures { λ x. ⌜ x ≡ below 64 (λ i. matches (now (changed .entry)) (now (seen .entry)) (at * 64 + i)) ⌝ }
+{
+    let from = at * 64;
+    seen_once(seen, from) & (seen_word(seen, from) == changed[at])
+}
+
+// Each changed mark is how often its link stands among the logs and the uncleared history, and no link stands twice in the history: word by word, and of the last
+// as many as are marks.
+fn marks_match(changed: &[u64], seen: &[u32; 8208], links: u16) -> bool
+    requires { ⌜ (links ≤ 8208) × (length (now changed) ≡ wordCount links) ⌝ }
+    ensures { λ x. ⌜ x ≡ marksMatch links (now (changed .entry)) (now (seen .entry)) ⌝ }
+{
+    let end = wide(links);
+    let whole = end / 64;
+    let mut ok = true;
+    let mut at = 0;
+    while at < whole {
+        ok = ok & whole_matches(changed, seen, at);
+        at += 1;
+    }
+    let rest = end % 64;
+    if rest == 0 {
+        return ok;
+    }
+    ok & word_matches(changed, seen, whole, rest)
 }
 
 // One link more counts for a record, in the tally that begins here.
@@ -247,18 +327,19 @@ fn counts_match(counts: &[u16], tally: &[u16; 8320]) -> bool
 // Every number of the tables that hold one number for a record, a register or a worker is in its range.
 fn numbers_fit(
     s: Sizes,
-    used: &[u16],
-    held: &[u16],
-    candidates: &[u16],
+    used: &[u64],
+    held: &[u64],
+    candidates: &[u64],
     makers: &[u16],
     registers: &[u16],
     snoops: &[u16],
 ) -> bool
+    requires { ⌜ (length (now used) ≡ wordCount (s .n)) × (length (now held) ≡ wordCount (s .n)) × (length (now candidates) ≡ wordCount (s .n)) ⌝ }
     ensures { λ x. ⌜ ((t : Tables) → x ≡ numbersFit s (numbersOn (used .entry) (held .entry) (candidates .entry) (makers .entry) (registers .entry) (snoops .entry) t)) ⌝ }
 {
-    at_most(used, 1)
-        & at_most(held, 1)
-        & at_most(candidates, 1)
+    unused_off(used, s.n)
+        & unused_off(held, s.n)
+        & unused_off(candidates, s.n)
         & at_most(makers, s.w)
         & at_most(registers, s.n)
         & at_most(snoops, 1)
@@ -269,7 +350,7 @@ fn links_fit(
     s: Sizes,
     counts: &[u16],
     values: &[u16],
-    changed: &[u16],
+    changed: &[u64],
     logs: &[u16],
     history: &[u16],
     lengths: &[u16],
@@ -299,23 +380,23 @@ fn links_fit(
         131073,
     );
     let padded = all_zero(&history[end..]);
-    let flagged = at_most(changed, 1);
-    let marked = marks_match(changed, &seen);
+    let unused = unused_off(changed, links);
+    let marked = marks_match(changed, &seen, links);
     tally_links(&mut tally, &last, wide(links));
     let matched = counts_match(counts, &tally);
-    counted & valued & logged & cleared & uncleared & padded & flagged & marked & matched
+    counted & valued & logged & cleared & uncleared & padded & unused & marked & matched
 }
 
 // The whole check, on tables of exact lengths.
 pub fn inspect(
     s: Sizes,
-    used: &[u16],
+    used: &[u64],
     counts: &[u16],
-    held: &[u16],
-    candidates: &[u16],
+    held: &[u64],
+    candidates: &[u64],
     makers: &[u16],
     values: &[u16],
-    changed: &[u16],
+    changed: &[u64],
     registers: &[u16],
     snoops: &[u16],
     logs: &[u16],

@@ -54,13 +54,13 @@ fn rest_of(bytes: &[u8], place: usize, step: u32) -> Rest
 // does the first event only, and one that answers 2 and has done some events.
 pub fn many_events(
     s: Sizes,
-    used: &mut [u16],
+    used: &mut [u64],
     counts: &mut [u16],
-    held: &mut [u16],
-    candidates: &mut [u16],
+    held: &mut [u64],
+    candidates: &mut [u64],
     makers: &mut [u16],
     values: &mut [u16],
-    changed: &mut [u16],
+    changed: &mut [u64],
     registers: &mut [u16],
     snoops: &mut [u16],
     logs: &mut [u16],

@@ -15,6 +15,7 @@ use Rattle.rules.specs.declared.Collector.{Collector}
 use Rattle.rules.specs.Size.{inRange, links}
 use Rattle.rules.specs.Pool.{fresh}
 use Rattle.soundness.proofs.Kept.{fresh-is-sound}
+use Rattle.tables.specs.Bits.{wordCount}
 use Rattle.tables.specs.Tables.{Tables}
 use Rattle.tables.specs.Lie.{room, poolOf, tablesOf}
 use Rattle.tables.specs.Known.{Known}
@@ -38,13 +39,13 @@ module _ (s : Sizes) (h : isSmall s ≡ true) where
   aside-is-fresh =
       (λ j.
       record {
-        used = take-zeros (s .n) 64 (omega (arith, small s h .n)) j;
+        used = take-zeros (wordCount (s .n)) 1 (omega (arith, small s h .n)) j;
         counts = take-zeros (s .n) 64 (omega (arith, small s h .n)) j;
-        held = take-zeros (s .n) 64 (omega (arith, small s h .n)) j;
-        candidates = take-zeros (s .n) 64 (omega (arith, small s h .n)) j;
+        held = take-zeros (wordCount (s .n)) 1 (omega (arith, small s h .n)) j;
+        candidates = take-zeros (wordCount (s .n)) 1 (omega (arith, small s h .n)) j;
         makers = take-zeros (s .n) 64 (omega (arith, small s h .n)) j;
         values = take-zeros (links s) 264 (links-few s h) j;
-        changed = take-zeros (links s) 264 (links-few s h) j;
+        changed = take-zeros (wordCount (links s)) 5 (omega (arith, links-few s h)) j;
         registers = take-zeros (s .w * s .r + 1) 33 (registers-few s h) j;
         snoops = take-zeros (s .w) 4 (omega (arith, small s h .w)) j;
         logs = take-zeros (s .w * room s) 2112 (logs-few s h) j;

@@ -19,10 +19,11 @@ use Rattle.rules.specs.declared.Refusal.{Refusal}
 use Rattle.rules.specs.declared.Refusal.the-variants.{WrongSize, WrongTag}
 use Rattle.rules.specs.Size.{inRange}
 use Rattle.rules.specs.Pool.{Pool, fresh}
-use Rattle.rules.specs.Outcome.{freeMarks}
+use Rattle.tables.specs.Bits.{wordCount}
 use Rattle.tables.specs.Tables.{Tables}
-use Rattle.tables.specs.Lie.{marks, poolOf}
+use Rattle.tables.specs.Lie.{poolOf}
 use Rattle.tables.specs.Known.{Known}
+use Rattle.fresh.specs.Free.{freeIn}
 use Rattle.fields.specs.declared.Stage.{Stage}
 use Rattle.fields.specs.declared.Stage.the-variants.{First, Events, Ended}
 use Rattle.fields.specs.declared.Reader.{Reader}
@@ -267,7 +268,7 @@ module _ {x : Progress} {t : Tables} (set : Set x t) (last : Bool) (bytes : List
   later-events is = record { holds = later-holds Events tt is; events = is; step = refl; same = whole-later Events tt is; work = work-later Events tt is }
 
   pub later-ended : x .reader .stage ≡ Ended → {part : Part}
-      → part ≡ partOf x (standBehind last (freeMarks (marks (take (x .sizes .n) (t .used)))) (x .collector .closed) bytes 0 (x .reader)) 0
+      → part ≡ partOf x (standBehind last (freeIn (x .sizes .n) (take (wordCount (x .sizes .n)) (t .used))) (x .collector .closed) bytes 0 (x .reader)) 0
       → StaysSo x t last bytes part
   unfolding front restWork
   later-ended is answered =
@@ -286,7 +287,7 @@ module _ {x : Progress} {t : Tables} (set : Set x t) (last : Bool) (bytes : List
       → arrays.Runs (y .sizes) (ranOn (y .sizes) (front (y .sizes) t) (y .collector) bytes place (x .reader .step) room) ran left filled
       → part
       ≡ partOf (record { reader = behind (ran .step); sizes = y .sizes; collector = ran .collector })
-      (standBehind last (freeMarks (marks (take (y .sizes .n) (left .used)))) (ran .collector .closed) bytes (ran .next) (behind (ran .step)))
+      (standBehind last (freeIn (y .sizes .n) (take (wordCount (y .sizes .n)) (left .used))) (ran .collector .closed) bytes (ran .next) (behind (ran .step)))
       (ran .events)
       → Takes (wholePart x t last bytes) x room part left filled
   unfolding front

@@ -26,6 +26,7 @@ use Rattle.rules.specs.Sound.{Sound}
 use Rattle.laws.proofs.Tests.{and-left, and-right}
 use Rattle.laws.proofs.Runs.{run-keeps}
 use Rattle.soundness.proofs.Kept.{event-keeps-sound}
+use Rattle.tables.specs.Bits.{wordCount}
 use Rattle.tables.specs.Tables.{Tables}
 use Rattle.tables.specs.Lie.{room, poolOf}
 use Rattle.tables.specs.Known.{Exact, Known}
@@ -74,13 +75,13 @@ module _ (s : Sizes) (h : isSmall s ≡ true) where
   logs-few = omega (arith, mul-le-mul-left (s .w) (let few : room s ≤ 528 = omega (arith, links-few) in few), small s h .w)
 
 pub record Within (s : Sizes) (t : Tables) : Type 0 where
-  pub used : s .n ≤ length (t .used)
+  pub used : wordCount (s .n) ≤ length (t .used)
   pub counts : s .n ≤ length (t .counts)
-  pub held : s .n ≤ length (t .held)
-  pub candidates : s .n ≤ length (t .candidates)
+  pub held : wordCount (s .n) ≤ length (t .held)
+  pub candidates : wordCount (s .n) ≤ length (t .candidates)
   pub makers : s .n ≤ length (t .makers)
   pub values : links s ≤ length (t .values)
-  pub changed : links s ≤ length (t .changed)
+  pub changed : wordCount (links s) ≤ length (t .changed)
   pub registers : s .w * s .r + 1 ≤ length (t .registers)
   pub snoops : s .w ≤ length (t .snoops)
   pub logs : s .w * room s ≤ length (t .logs)
@@ -113,13 +114,13 @@ counted n l h = sym (length-take-le n l h)
 abbrev pub back : Sizes → Tables → Tables → Tables
 back s t x =
     record {
-      used = x .used ++ drop (s .n) (t .used);
+      used = x .used ++ drop (wordCount (s .n)) (t .used);
       counts = x .counts ++ drop (s .n) (t .counts);
-      held = x .held ++ drop (s .n) (t .held);
-      candidates = x .candidates ++ drop (s .n) (t .candidates);
+      held = x .held ++ drop (wordCount (s .n)) (t .held);
+      candidates = x .candidates ++ drop (wordCount (s .n)) (t .candidates);
       makers = x .makers ++ drop (s .n) (t .makers);
       values = x .values ++ drop (links s) (t .values);
-      changed = x .changed ++ drop (links s) (t .changed);
+      changed = x .changed ++ drop (wordCount (links s)) (t .changed);
       registers = x .registers ++ drop (s .w * s .r + 1) (t .registers);
       snoops = x .snoops ++ drop (s .w) (t .snoops);
       logs = x .logs ++ drop (s .w * room s) (t .logs);
@@ -137,13 +138,13 @@ module _ {s : Sizes} (t : Tables) {x : Tables} (exact : Exact s x) where
   front-back =
       λ j.
       record {
-        used = take-at (x .used) (drop (s .n) (t .used)) (s .n) (exact .used) j;
+        used = take-at (x .used) (drop (wordCount (s .n)) (t .used)) (wordCount (s .n)) (exact .used) j;
         counts = take-at (x .counts) (drop (s .n) (t .counts)) (s .n) (exact .counts) j;
-        held = take-at (x .held) (drop (s .n) (t .held)) (s .n) (exact .held) j;
-        candidates = take-at (x .candidates) (drop (s .n) (t .candidates)) (s .n) (exact .candidates) j;
+        held = take-at (x .held) (drop (wordCount (s .n)) (t .held)) (wordCount (s .n)) (exact .held) j;
+        candidates = take-at (x .candidates) (drop (wordCount (s .n)) (t .candidates)) (wordCount (s .n)) (exact .candidates) j;
         makers = take-at (x .makers) (drop (s .n) (t .makers)) (s .n) (exact .makers) j;
         values = take-at (x .values) (drop (links s) (t .values)) (links s) (exact .values) j;
-        changed = take-at (x .changed) (drop (links s) (t .changed)) (links s) (exact .changed) j;
+        changed = take-at (x .changed) (drop (wordCount (links s)) (t .changed)) (wordCount (links s)) (exact .changed) j;
         registers = take-at (x .registers) (drop (s .w * s .r + 1) (t .registers)) (s .w * s .r + 1) (exact .registers) j;
         snoops = take-at (x .snoops) (drop (s .w) (t .snoops)) (s .w) (exact .snoops) j;
         logs = take-at (x .logs) (drop (s .w * room s) (t .logs)) (s .w * room s) (exact .logs) j;

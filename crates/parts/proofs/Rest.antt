@@ -16,13 +16,14 @@ use lib.ListN.{length}
 use Rattle.rules.specs.declared.Sizes.{Sizes}
 use Rattle.rules.specs.declared.Collector.{Collector}
 use Rattle.rules.specs.Pool.{Pool}
-use Rattle.rules.specs.Outcome.{answers, after, freeMarks}
+use Rattle.rules.specs.Outcome.{answers, after}
 use Rattle.rules.specs.Sound.{Sound}
 use Rattle.laws.proofs.Runs.{run-keeps}
 use Rattle.soundness.proofs.Kept.{event-keeps-sound}
 use Rattle.tables.specs.Tables.{Tables}
-use Rattle.tables.specs.Lie.{marks, poolOf}
+use Rattle.tables.specs.Lie.{poolOf}
 use Rattle.tables.proofs.RoundTrip.{pool-of-tables, known-back}
+use Rattle.fresh.specs.Free.{freeIn}
 use Rattle.fields.specs.declared.Stage.{Stage}
 use Rattle.fields.specs.declared.Stage.the-variants.{First, Events, Ended}
 use Rattle.fields.specs.declared.Reader.{Reader}
@@ -129,7 +130,7 @@ module _ {x : Progress} {t : Tables} (long : Long t) (holds : Holds x t) (last :
 
   pub events-taken : Later (x .reader .stage) → (x .reader .stage ≡ Ended → ⊥) → {y : Stood} {ran : Ran} {left : Tables} {filled : List ℕ}
       → arrays.Runs (x .sizes) (ranOn (x .sizes) (front (x .sizes) t) (x .collector) bytes place (x .reader .step) room) ran left filled
-      → y ≡ standBehind last (freeMarks (marks (front (x .sizes) left .used))) (ran .collector .closed) bytes (ran .next) (behind (ran .step))
+      → y ≡ standBehind last (freeIn (x .sizes .n) (front (x .sizes) left .used)) (ran .collector .closed) bytes (ran .next) (behind (ran .step))
       → Takes (restTaken last bytes place (x .reader) (x .sizes) pool) x room (partOf (record { reader = behind (ran .step); sizes = x .sizes; collector = ran .collector }) y (ran .events)) left filled
   unfolding ranOn leftIn
   events-taken later unended {y} {ran} {left} {filled} runs behind-events =
@@ -140,7 +141,7 @@ module _ {x : Progress} {t : Tables} (long : Long t) (holds : Holds x t) (last :
       let sound : Sound s q = run-keeps s (Sound s) (event-keeps-sound s (known .sizes)) pool (known .tables .sound) (trail .events) in
       let taken = rest-events last bytes place (x .reader) s pool unended in
       let stays = subst (Stays (ran .step)) (sym behind-events)
-      (stood-stays last (freeMarks (marks (front s left .used))) (ran .collector .closed) bytes 2 (ran .next) (ran .step) Events tt) in
+      (stood-stays last (freeIn (s .n) (front s left .used)) (ran .collector .closed) bytes 2 (ran .next) (ran .step) Events tt) in
       let back : poolOf s (front s left) (ran .collector) ≡ q =
       ap (λ (z : RanOn). poolOf s (z .tables) (z .ran .collector)) (sym (runs .same))
       ∙ pool-of-tables s q (sound .shaped) (sound .log-length) (sound .history-length) in
@@ -148,8 +149,8 @@ module _ {x : Progress} {t : Tables} (long : Long t) (holds : Holds x t) (last :
       record {
         stood =
             ap (λ (z : Taken). z .stood) taken
-            ∙ ap (λ (free : ℕ). standBehind last free (q .collector .closed) bytes (trail .next) (behind (trail .step))) (free-written s q)
-            ∙ ap (λ (z : RanOn). standBehind last (freeMarks (marks (z .tables .used))) (z .ran .collector .closed) bytes (z .ran .next) (behind (z .ran .step)))
+            ∙ ap (λ (free : ℕ). standBehind last free (q .collector .closed) bytes (trail .next) (behind (trail .step))) (free-written s q sound)
+            ∙ ap (λ (z : RanOn). standBehind last (freeIn (s .n) (z .tables .used)) (z .ran .collector .closed) bytes (z .ran .next) (behind (z .ran .step)))
             (runs .same)
             ∙ sym behind-events;
         numbered = (answers s pool (trail .events), ap (λ (z : Taken). z .lines) taken);
@@ -174,7 +175,7 @@ module _ {x : Progress} {t : Tables} (long : Long t) (holds : Holds x t) (last :
       }
 
   pub ended-taken : x .reader .stage ≡ Ended → {y : Stood}
-      → y ≡ standBehind last (freeMarks (marks (front (x .sizes) t .used))) (x .collector .closed) bytes place (x .reader)
+      → y ≡ standBehind last (freeIn (x .sizes .n) (front (x .sizes) t .used)) (x .collector .closed) bytes place (x .reader)
       → Takes (restTaken last bytes place (x .reader) (x .sizes) pool) x room (partOf x y 0) t room
   unfolding leftIn put poolOf linesBehind
   ended-taken closed {y} behind-end =
@@ -182,12 +183,12 @@ module _ {x : Progress} {t : Tables} (long : Long t) (holds : Holds x t) (last :
       let taken = rest-ended last bytes place (x .reader) s pool closed in
       let later : Later (x .reader .stage) = subst Later (sym closed) tt in
       let stays = subst (Stays (x .reader .step)) (sym behind-end)
-      (stood-stays last (freeMarks (marks (front s t .used))) (x .collector .closed) bytes 2 place (x .reader .step) (x .reader .stage) later) in
+      (stood-stays last (freeIn (s .n) (front s t .used)) (x .collector .closed) bytes 2 place (x .reader .step) (x .reader .stage) later) in
       record {
         stood =
             ap (λ (z : Taken). z .stood) taken
             ∙ ap (λ (free : ℕ). standBehind last free (x .collector .closed) bytes place (x .reader))
-            (free-written s pool ∙ ap (λ (z : Tables). freeMarks (marks (z .used))) (known-back (holds .known)))
+            (free-written s pool (holds .known .tables .sound) ∙ ap (λ (z : Tables). freeIn (s .n) (z .used)) (known-back (holds .known)))
             ∙ sym behind-end;
         events = ap (λ (z : Taken). length (z .lines)) (sym taken);
         numbered = ([], ap (λ (z : Taken). z .lines) taken);

@@ -28,13 +28,13 @@ pub aside-long : Long aside
 unfolding aside
 aside-long =
     record {
-      used = length-replicate {A = ℕ} 64 0;
+      used = length-replicate {A = ℕ} 1 0;
       counts = length-replicate {A = ℕ} 64 0;
-      held = length-replicate {A = ℕ} 64 0;
-      candidates = length-replicate {A = ℕ} 64 0;
+      held = length-replicate {A = ℕ} 1 0;
+      candidates = length-replicate {A = ℕ} 1 0;
       makers = length-replicate {A = ℕ} 64 0;
       values = length-replicate {A = ℕ} 264 0;
-      changed = length-replicate {A = ℕ} 264 0;
+      changed = length-replicate {A = ℕ} 5 0;
       registers = length-replicate {A = ℕ} 33 0;
       snoops = length-replicate {A = ℕ} 4 0;
       logs = length-replicate {A = ℕ} 2112 0;

@@ -19,6 +19,7 @@ use Rattle.rules.specs.declared.Answer.{Answer}
 use Rattle.rules.specs.Size.{links}
 use Rattle.fields.specs.declared.Stage.{Stage}
 use Rattle.fields.specs.declared.Stage.the-variants.{First, Events, Ended}
+use Rattle.tables.specs.Bits.{wordCount}
 use Rattle.tables.specs.Tables.{Tables}
 use Rattle.tables.specs.Lie.{room, poolOf}
 use Rattle.tables.specs.Known.{Known}
@@ -37,13 +38,13 @@ isSmall s = leb (s .n) 64 && leb (s .k) 4 && leb (s .w) 4 && leb (s .r) 8 && leb
 unfoldable pub front : Sizes → Tables → Tables
 front s t =
     record {
-      used = take (s .n) (t .used);
+      used = take (wordCount (s .n)) (t .used);
       counts = take (s .n) (t .counts);
-      held = take (s .n) (t .held);
-      candidates = take (s .n) (t .candidates);
+      held = take (wordCount (s .n)) (t .held);
+      candidates = take (wordCount (s .n)) (t .candidates);
       makers = take (s .n) (t .makers);
       values = take (links s) (t .values);
-      changed = take (links s) (t .changed);
+      changed = take (wordCount (links s)) (t .changed);
       registers = take (s .w * s .r + 1) (t .registers);
       snoops = take (s .w) (t .snoops);
       logs = take (s .w * room s) (t .logs);
@@ -59,13 +60,13 @@ leftIn x t =
 
 -- arrays for the largest sizes
 pub record Long (t : Tables) : Type 0 where
-  pub used : length (t .used) ≡ 64
+  pub used : length (t .used) ≡ 1
   pub counts : length (t .counts) ≡ 64
-  pub held : length (t .held) ≡ 64
-  pub candidates : length (t .candidates) ≡ 64
+  pub held : length (t .held) ≡ 1
+  pub candidates : length (t .candidates) ≡ 1
   pub makers : length (t .makers) ≡ 64
   pub values : length (t .values) ≡ 264
-  pub changed : length (t .changed) ≡ 264
+  pub changed : length (t .changed) ≡ 5
   pub registers : length (t .registers) ≡ 33
   pub snoops : length (t .snoops) ≡ 4
   pub logs : length (t .logs) ≡ 2112
@@ -76,13 +77,13 @@ pub record Long (t : Tables) : Type 0 where
 unfoldable pub aside : Tables
 aside =
     record {
-      used = replicate 64 0;
+      used = replicate 1 0;
       counts = replicate 64 0;
-      held = replicate 64 0;
-      candidates = replicate 64 0;
+      held = replicate 1 0;
+      candidates = replicate 1 0;
       makers = replicate 64 0;
       values = replicate 264 0;
-      changed = replicate 264 0;
+      changed = replicate 5 0;
       registers = replicate 33 0;
       snoops = replicate 4 0;
       logs = replicate 2112 0;

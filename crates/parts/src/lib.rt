@@ -31,10 +31,10 @@ ghost use mathlib.Core.Path.{_≡_};
 ghost use mathlib.Core.Bool.{true};
 ghost use Prim.Native.Nat.{_≤_};
 ghost use lib.ListN.{length, take};
-ghost use Rattle.rules.specs.Outcome.{freeMarks};
+ghost use Rattle.tables.specs.Bits.{wordCount};
 ghost use Rattle.tables.specs.Tables.{Tables, lent};
-ghost use Rattle.tables.specs.Lie.{marks};
 ghost use Rattle.tables.specs.Known.{Known};
+ghost use Rattle.fresh.specs.Free.{freeIn};
 ghost use Rattle.text.specs.Text.{StartsWith};
 ghost use Rattle.trace.specs.Stretch.{ranOn};
 ghost use Rattle.trace.specs.Stand.{standBehind};
@@ -81,13 +81,13 @@ fn is_small(s: Sizes) -> bool
 // The events that stand one after another from a place on, on the pool at the arrays' beginnings.
 fn run_front(
     s: Sizes,
-    used: &mut [u16],
+    used: &mut [u64],
     counts: &mut [u16],
-    held: &mut [u16],
-    candidates: &mut [u16],
+    held: &mut [u64],
+    candidates: &mut [u64],
     makers: &mut [u16],
     values: &mut [u16],
-    changed: &mut [u16],
+    changed: &mut [u64],
     registers: &mut [u16],
     snoops: &mut [u16],
     logs: &mut [u16],
@@ -112,19 +112,21 @@ fn run_front(
     let n = s.n as usize;
     let w = s.w as usize;
     let links = n * (s.k as usize) + (s.b as usize);
+    let words = (n + 63) / 64;
+    let link_words = (links + 63) / 64;
     let all = w * (s.r as usize) + 1;
     let room = links * 2;
     let rooms = w * room;
     let lists = w + 1;
     run_events(
         s,
-        &mut used[..n],
+        &mut used[..words],
         &mut counts[..n],
-        &mut held[..n],
-        &mut candidates[..n],
+        &mut held[..words],
+        &mut candidates[..words],
         &mut makers[..n],
         &mut values[..links],
-        &mut changed[..links],
+        &mut changed[..link_words],
         &mut registers[..all],
         &mut snoops[..w],
         &mut logs[..rooms],
@@ -192,7 +194,7 @@ fn begin_first(x: Progress, bytes: &[u8], last: bool) -> Begun
 
 // How the trace stands behind the events of a part, from a place on. `x` is what is kept then, and `events` is how many there were.
 pub fn end_part(
-    used: &[u16],
+    used: &[u64],
     x: Progress,
     bytes: &[u8],
     place: usize,
@@ -200,14 +202,22 @@ pub fn end_part(
     last: bool,
 ) -> Part
     requires { ⌜ isSmall (x .sizes) ≡ true ⌝ }
-    requires { ⌜ length (now used) ≡ 64 ⌝ }
-    ensures { λ y. ⌜ y ≡ partOf x (standBehind last (freeMarks (marks (take (x .sizes .n) (now (used .entry))))) (x .collector .closed) (now (bytes .entry)) place (x .reader)) events ⌝ }
+    requires { ⌜ length (now used) ≡ 1 ⌝ }
+    ensures { λ y. ⌜ y ≡ partOf x (standBehind last (freeIn (x .sizes .n) (take (wordCount (x .sizes .n)) (now (used .entry)))) (x .collector .closed) (now (bytes .entry)) place (x .reader)) events ⌝ }
 {
     let s = x.sizes;
     let collector = x.collector;
     let reader = x.reader;
-    let n = s.n as usize;
-    let stood = stand_behind(&used[..n], collector.closed, bytes, place, reader, last);
+    let words = (s.n as usize + 63) / 64;
+    let stood = stand_behind(
+        s.n,
+        &used[..words],
+        collector.closed,
+        bytes,
+        place,
+        reader,
+        last,
+    );
     let stand = stood.stand;
     let now = stood.reader;
     Part {
@@ -223,7 +233,7 @@ pub fn end_part(
 }
 
 // How a part begins, which begins where the one before left off.
-pub fn begin_part(used: &[u16], x: Progress, bytes: &[u8], last: bool) -> Begun
+pub fn begin_part(used: &[u64], x: Progress, bytes: &[u8], last: bool) -> Begun
     requires { ⌜ SomeArrays x (now used) ⌝ }
     ensures { λ y. ⌜ ((t : Tables) → t .used ≡ now (used .entry) → Set x t → BegunAs x t last (now (bytes .entry)) y) ⌝ }
 {
@@ -238,13 +248,13 @@ pub fn begin_part(used: &[u16], x: Progress, bytes: &[u8], last: bool) -> Begun
 
 // A part of a trace, whose lines are put into `text`, from its start on. `answers` is for the answers of its events.
 pub fn part_text(
-    used: &mut [u16],
+    used: &mut [u64],
     counts: &mut [u16],
-    held: &mut [u16],
-    candidates: &mut [u16],
+    held: &mut [u64],
+    candidates: &mut [u64],
     makers: &mut [u16],
     values: &mut [u16],
-    changed: &mut [u16],
+    changed: &mut [u64],
     registers: &mut [u16],
     snoops: &mut [u16],
     logs: &mut [u16],

@@ -11,9 +11,8 @@ use Rattle.rules.specs.declared.Sizes.{Sizes}
 use Rattle.rules.specs.declared.Event.{Event}
 use Rattle.rules.specs.declared.Collector.{Collector}
 use Rattle.rules.specs.declared.Answered.{Answered}
-use Rattle.rules.specs.Outcome.{freeMarks}
 use Rattle.tables.specs.Tables.{Tables}
-use Rattle.tables.specs.Lie.{marks}
+use Rattle.fresh.specs.Free.{freeIn}
 use Rattle.tables.specs.Event.{Called}
 use Rattle.clauses.specs.IsSound.{isSound}
 use Rattle.fresh.specs.Fits.{fits}
@@ -43,5 +42,5 @@ module _ (s : Sizes) (before : Tables) (c : Collector) where
   pub sound-one-result : (x y : Bool) → x ≡ (fits s before && isSound s before c) → y ≡ (fits s before && isSound s before c) → x ≡ y
   sound-one-result x y first second = first ∙ sym second
 
-pub free-one-result : (used : List ℕ) (x y : ℕ) → x ≡ freeMarks (marks used) → y ≡ freeMarks (marks used) → x ≡ y
-free-one-result used x y first second = first ∙ sym second
+pub free-one-result : (n : ℕ) (used : List ℕ) (x y : ℕ) → x ≡ freeIn n used → y ≡ freeIn n used → x ≡ y
+free-one-result n used x y first second = first ∙ sym second

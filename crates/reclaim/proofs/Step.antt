@@ -7,12 +7,11 @@
 -- Assumes nothing.
 use Prim.Native.Nat.{ℕ, zero, suc, _≤_, _<_}
 use mathlib.Core.Path.{_≡_, refl, sym, ap, _∙_}
-use mathlib.Core.Bool.{Bool, true, false, cond, _&&_}
-use mathlib.Core.List.{List, [], _∷_, map, zipWith}
+use mathlib.Core.Bool.{Bool, true, false, cond}
+use mathlib.Core.List.{List, [], _∷_, map}
 use mathlib.Core.Logic.{⊎-elim}
 use native.Mathlib.Omega.{arith}
 use native.Mathlib.Nat.{not-suc-le-zero}
-use lib.Dec.{eqb}
 use lib.ListN.{length, replicate}
 use Rattle.rules.specs.declared.Sizes.{Sizes}
 use Rattle.rules.specs.declared.RecordNumber.{RecordNumber}
@@ -21,12 +20,14 @@ use Rattle.rules.specs.declared.Event.the-variants.{Collect}
 use Rattle.rules.specs.declared.Answer.the-variants.{Stepped, Freed}
 use Rattle.rules.specs.declared.Answered.{Answered}
 use Rattle.rules.specs.Pool.{Pool}
-use Rattle.rules.specs.View.{bit}
 use Rattle.rules.specs.Collect.{stepped, unchanged, reclaimed, becomesFree, frees, empties, nextClosed, closes, freesOrEmpties, reclaimsOrCloses, reclaims, phases}
 use Rattle.tables.specs.Tables.{Tables, putHeld, putCandidates}
-use Rattle.tables.specs.Lie.{bits, poolOf, tablesOf}
+use Rattle.tables.specs.Bits.{wordCount, wordsOf, onlyStanding}
+use Rattle.tables.specs.Lie.{poolOf, tablesOf}
 use Rattle.tables.specs.Known.{Known}
 use Rattle.tables.specs.Event.{written, eventOn}
+use Rattle.tables.proofs.Packed.{all-off}
+use Rattle.tables.proofs.Standing.{only-marks}
 use Rattle.tables.proofs.RoundTrip.{known-back}
 use Rattle.tables.proofs.Done.{collect-is}
 use Rattle.soundness.proofs.Core.{position-in}
@@ -34,33 +35,26 @@ use Rattle.laws.proofs.Search.{frees-is, reclaimed-passes}
 use Rattle.laws.proofs.Change.{empties-unmoved}
 use Rattle.advance.specs.Moved.{Movable}
 use Rattle.reclaim.specs.Lent.{InPool, Freeable}
-use Rattle.reclaim.specs.Raw.{kept}
 
 -- ---- the close
 
-bits-off : (held : List Bool) → bits (map (λ h. false) held) ≡ replicate (length (bits held)) 0
-bits-off [] = refl
-bits-off (h ∷ held) = ap (λ t. 0 ∷ t) (bits-off held)
-
-bits-kept : (candidates : List Bool) (counts : List ℕ) → bits (zipWith (λ c n. c && eqb n 0) candidates counts) ≡ kept counts (bits candidates)
-unfolding kept zipWith
-bits-kept [] [] = refl
-bits-kept [] (n ∷ counts) = refl
-bits-kept (c ∷ candidates) [] = refl
-bits-kept (c ∷ candidates) (n ∷ counts) = λ j. bit-kept c (eqb n 0) j ∷ bits-kept candidates counts j
-  where
-    bit-kept : (c b : Bool) → bit (c && b) ≡ cond b (bit c) 0
-    bit-kept true true = refl
-    bit-kept true false = refl
-    bit-kept false true = refl
-    bit-kept false false = refl
+nothing-on : (held : List Bool) → map (λ h. false) held ≡ replicate (length held) false
+nothing-on [] = refl
+nothing-on (h ∷ held) = ap (λ t. false ∷ t) (nothing-on held)
 
 abbrev pub closedTables : Tables → Tables
-closedTables t = putHeld (replicate (length (t .held)) 0) (putCandidates (kept (t .counts) (t .candidates)) t)
+closedTables t = putHeld (replicate (length (t .held)) 0) (putCandidates (onlyStanding 0 (t .counts) (t .candidates)) t)
 
-closes-written : (s : Sizes) (p : Pool) → tablesOf s (closes p) ≡ closedTables (tablesOf s p)
-unfolding tablesOf closes
-closes-written s p = λ j. putHeld (bits-off (p .records .held) j) (putCandidates (bits-kept (p .records .candidate) (p .records .count) j) (tablesOf s p))
+closes-written : {s : Sizes} {t : Tables} {c : Collector} → Known s t c → tablesOf s (closes (poolOf s t c)) ≡ closedTables t
+unfolding tablesOf closes poolOf
+closes-written {s} {t} {c} known =
+    let held : List Bool = poolOf s t c .records .held in
+    λ j.
+    putHeld
+    ((ap wordsOf (nothing-on held)
+    ∙ all-off (length held)
+    ∙ ap (λ (n : ℕ). replicate n 0) (ap wordCount (known .tables .sound .shaped .records .held) ∙ sym (known .exact .held))) j)
+    (putCandidates (only-marks (s .n) 0 (t .counts) (t .candidates) (known .exact .counts) (known .exact .candidates) (known .tables .marked .candidates) j) (known-back known j))
 
 -- ---- the collect event
 
@@ -93,7 +87,7 @@ module _ {s : Sizes} {t : Tables} {c : Collector} (known : Known s t c) (phase :
         record {
           answer = sym answered j .answer;
           collector = sym answered j .collector;
-          tables = (closes-written s p ∙ ap closedTables (known-back known) ∙ h) j;
+          tables = (closes-written known ∙ h) j;
         })
 
     found-is : (k : ℕ) → 1 ≤ k → reclaimsOrCloses s p k ≡ freesOrEmpties s p (record { 0 = k })

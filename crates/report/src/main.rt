@@ -55,13 +55,13 @@ fn say_unended() {
 // A proved loop has to end, and nothing says that an input does. So the turns are counted down, from a number that no run uses up. Behind the last byte of a trace
 // nothing is waited for, so that the last part ends the trace. Where a read fails, or the turns run out, no last line is made up.
 fn main() {
-    let mut used = [0u16; 64];
+    let mut used = [0u64; 1];
     let mut counts = [0u16; 64];
-    let mut held = [0u16; 64];
-    let mut candidates = [0u16; 64];
+    let mut held = [0u64; 1];
+    let mut candidates = [0u64; 1];
     let mut makers = [0u16; 64];
     let mut values = [0u16; 264];
-    let mut changed = [0u16; 264];
+    let mut changed = [0u64; 5];
     let mut registers = [0u16; 33];
     let mut snoops = [0u16; 4];
     let mut logs = [0u16; 2112];

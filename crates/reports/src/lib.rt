@@ -39,13 +39,13 @@ pub struct ReportText {
 // The events that stand one after another from a place on, done and tallied on the pool at the arrays' beginnings.
 fn tally_front(
     s: Sizes,
-    used: &mut [u16],
+    used: &mut [u64],
     counts: &mut [u16],
-    held: &mut [u16],
-    candidates: &mut [u16],
+    held: &mut [u64],
+    candidates: &mut [u64],
     makers: &mut [u16],
     values: &mut [u16],
-    changed: &mut [u16],
+    changed: &mut [u64],
     registers: &mut [u16],
     snoops: &mut [u16],
     logs: &mut [u16],
@@ -72,19 +72,21 @@ fn tally_front(
     let n = s.n as usize;
     let w = s.w as usize;
     let links = n * (s.k as usize) + (s.b as usize);
+    let words = (n + 63) / 64;
+    let link_words = (links + 63) / 64;
     let all = w * (s.r as usize) + 1;
     let room = links * 2;
     let rooms = w * room;
     let lists = w + 1;
     tally_events(
         s,
-        &mut used[..n],
+        &mut used[..words],
         &mut counts[..n],
-        &mut held[..n],
-        &mut candidates[..n],
+        &mut held[..words],
+        &mut candidates[..words],
         &mut makers[..n],
         &mut values[..links],
-        &mut changed[..links],
+        &mut changed[..link_words],
         &mut registers[..all],
         &mut snoops[..w],
         &mut logs[..rooms],
@@ -101,13 +103,13 @@ fn tally_front(
 
 // A part of a trace, whose cycles' lines are put into `text`, from its start on. So many have closed before; `numbers` is for the numbers of those that close now.
 pub fn report_text(
-    used: &mut [u16],
+    used: &mut [u64],
     counts: &mut [u16],
-    held: &mut [u16],
-    candidates: &mut [u16],
+    held: &mut [u64],
+    candidates: &mut [u64],
     makers: &mut [u16],
     values: &mut [u16],
-    changed: &mut [u16],
+    changed: &mut [u64],
     registers: &mut [u16],
     snoops: &mut [u16],
     logs: &mut [u16],

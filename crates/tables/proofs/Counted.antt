@@ -6,13 +6,14 @@
 -- Assumes nothing.
 use Prim.Native.Nat.{ℕ, zero, suc, _-_, _≤_}
 use mathlib.Core.Path.{_≡_, sym, ap, _∙_}
-use mathlib.Core.Bool.{cond}
+use mathlib.Core.Bool.{true, cond}
 use mathlib.Core.List.{List}
 use native.Mathlib.Omega.{arith}
 use native.Mathlib.Nat.{not-suc-le-zero}
 use borrow.Author.Tests.{eq-eqb, ne-eqb}
 use lib.ListN.{getD, set}
 use Rattle.rules.specs.Pool.{ofRecord, withRecord}
+use Rattle.tables.specs.Bits.{markRecord}
 use Rattle.tables.specs.Counted.{fallen}
 
 module _ (xs : List ℕ) where
@@ -28,10 +29,10 @@ module _ (xs : List ℕ) where
   changed-here f a place h e =
       ap (λ (x : ℕ). set xs place (f x)) (number-here a place h e) ∙ marked-here a place (f (ofRecord xs a 0)) h e
 
-pub fallen-on : (a : ℕ) (counts candidates : List ℕ) → ofRecord counts a 0 - 1 ≡ 0 → withRecord candidates a 1 ≡ fallen a counts candidates
+pub fallen-on : (a : ℕ) (counts candidates : List ℕ) → ofRecord counts a 0 - 1 ≡ 0 → markRecord candidates a true ≡ fallen a counts candidates
 unfolding fallen
-fallen-on a counts candidates e = ap (λ b. cond b (withRecord candidates a 1) candidates) (sym (eq-eqb (ofRecord counts a 0 - 1) 0 e))
+fallen-on a counts candidates e = ap (λ b. cond b (markRecord candidates a true) candidates) (sym (eq-eqb (ofRecord counts a 0 - 1) 0 e))
 
 pub fallen-off : (a : ℕ) (counts candidates : List ℕ) → (ofRecord counts a 0 - 1 ≡ 0 → ⊥) → candidates ≡ fallen a counts candidates
 unfolding fallen
-fallen-off a counts candidates n = ap (λ b. cond b (withRecord candidates a 1) candidates) (sym (ne-eqb (ofRecord counts a 0 - 1) 0 n))
+fallen-off a counts candidates n = ap (λ b. cond b (markRecord candidates a true) candidates) (sym (ne-eqb (ofRecord counts a 0 - 1) 0 n))

@@ -1,10 +1,10 @@
 -- The tables of a pool and the pool of tables undo each other.
 --     pool-of-tables      a pool with lists of their lengths, written out and read again, is the pool
---     tables-of-pool      tables of their lengths, with marks of 0 and 1, lists in their room and 0 past them, read and written out again, are the tables
+--     tables-of-pool      tables of their lengths, with unused bits 0 and flags of 0 and 1, lists in their room and 0 past them, read and written out again, are the tables
 --     last-apart          the last of n + 1 numbers
 --     known-back          tables that are known are the tables of the pool that they mean
 --     sound-known         the tables of a sound pool are known
--- The first two are field by field: marks and record numbers one by one (Marks), registers and logs block by block (Blocks), entries pair by pair (Entered).
+-- The first two are field by field: marks word by word (Packed), flags and record numbers one by one (Marks), registers and logs block by block (Blocks), entries pair by pair (Entered).
 -- Assumes nothing.
 use Prim.Native.Nat.{ℕ, zero, suc, _+_, _*_, _≤_, _<_, zero-le, suc-le-suc}
 use mathlib.Core.Path.{_≡_, refl, sym, ap, _∙_, subst, subst₂}
@@ -28,6 +28,7 @@ use Rattle.tables.specs.Lie.{recordNumbers, numbers, cut, entries, laid,
 use Rattle.tables.specs.Known.{Exact, Marked, block, Padded, Known}
 use Rattle.tables.proofs.Blocks.{Sized, length-cut, cut-at, cut-sized, joined-cut, cut-joined-before, cut-joined, length-joined}
 use Rattle.tables.proofs.Entered.{length-entries, length-laid, laid-past, entries-laid, laid-entries}
+use Rattle.tables.proofs.Packed.{length-wordsOf, packed-words, marks-words, words-marks}
 use Rattle.tables.proofs.Marks.{marks-bits, bits-marks, bits-low, named-numbers, numbers-named}
 
 -- ---- lists
@@ -98,13 +99,13 @@ module _ (s : Sizes) (p : Pool) (shaped : Shaped s p) (logs : (w : ℕ) → leng
       record {
         records =
             record {
-              used = marks-bits (p .records .used) j;
+              used = marks-words (s .n) (p .records .used) (shaped .records .used) j;
               count = p .records .count;
-              held = marks-bits (p .records .held) j;
-              candidate = marks-bits (p .records .candidate) j;
+              held = marks-words (s .n) (p .records .held) (shaped .records .held) j;
+              candidate = marks-words (s .n) (p .records .candidate) (shaped .records .candidate) j;
               maker = p .records .maker;
             };
-        links = record { value = named-numbers (p .links .value) j; changed = marks-bits (p .links .changed) j };
+        links = record { value = named-numbers (p .links .value) j; changed = marks-words (links s) (p .links .changed) (shaped .links .changed) j };
         workers =
             record {
               registers = (ap (map recordNumbers) rows-cut ∙ map-undone numbers recordNumbers named-numbers (p .workers .registers)) j;
@@ -139,7 +140,7 @@ lengths-back (n ∷ lengths) [] h = refl
 lengths-back [] (x ∷ rooms) h = absurd (not-suc-le-zero h)
 lengths-back (n ∷ lengths) (x ∷ rooms) h = λ j. length-entries n x j ∷ lengths-back lengths rooms (le-of-suc-le-suc h) j
 
-module _ (s : Sizes) (t : Tables) (c : Collector) (exact : Exact s t) (marked : Marked t) (padded : Padded s t) (low : (w : ℕ) → w ≤ s .w → getD (t .lengths) w 0 ≤ links s) where
+module _ (s : Sizes) (t : Tables) (c : Collector) (exact : Exact s t) (marked : Marked s t) (padded : Padded s t) (low : (w : ℕ) → w ≤ s .w → getD (t .lengths) w 0 ≤ links s) where
   rooms : List (List ℕ)
   rooms = cut (s .w) (room s) (t .logs)
 
@@ -168,13 +169,13 @@ module _ (s : Sizes) (t : Tables) (c : Collector) (exact : Exact s t) (marked : 
   tables-of-pool =
       λ j.
       record {
-        used = bits-marks (t .used) (marked .used) j;
+        used = words-marks (s .n) (t .used) (exact .used) (marked .used) j;
         counts = t .counts;
-        held = bits-marks (t .held) (marked .held) j;
-        candidates = bits-marks (t .candidates) (marked .candidates) j;
+        held = words-marks (s .n) (t .held) (exact .held) (marked .held) j;
+        candidates = words-marks (s .n) (t .candidates) (exact .candidates) (marked .candidates) j;
         makers = t .makers;
         values = numbers-named (t .values) j;
-        changed = bits-marks (t .changed) (marked .changed) j;
+        changed = words-marks (links s) (t .changed) (exact .changed) (marked .changed) j;
         registers =
             ((λ i.
             (ap flatten (map-undone recordNumbers numbers numbers-named (cut (s .w) (s .r) (t .registers)))
@@ -220,13 +221,13 @@ module _ (s : Sizes) (range : inRange s ≡ true) (p : Pool) (sound : Sound s p)
   exact-written =
       let shaped = sound .shaped in
       record {
-        used = length-map (p .records .used) bit ∙ shaped .records .used;
+        used = length-wordsOf (s .n) (p .records .used) (shaped .records .used);
         counts = shaped .records .count;
-        held = length-map (p .records .held) bit ∙ shaped .records .held;
-        candidates = length-map (p .records .candidate) bit ∙ shaped .records .candidate;
+        held = length-wordsOf (s .n) (p .records .held) (shaped .records .held);
+        candidates = length-wordsOf (s .n) (p .records .candidate) (shaped .records .candidate);
         makers = shaped .records .maker;
         values = length-map (p .links .value) (λ a. a .0) ∙ shaped .links .value;
-        changed = length-map (p .links .changed) bit ∙ shaped .links .changed;
+        changed = length-wordsOf (links s) (p .links .changed) (shaped .links .changed);
         registers =
             length-append (flatten (map numbers (p .workers .registers))) (p .last .0 ∷ [])
             ∙ ap (λ (n : ℕ). n + 1) (length-rows s (p .workers) (shaped .workers));
@@ -285,10 +286,10 @@ module _ (s : Sizes) (range : inRange s ≡ true) (p : Pool) (sound : Sound s p)
             record {
               marked =
                   record {
-                    used = bits-low (p .records .used);
-                    held = bits-low (p .records .held);
-                    candidates = bits-low (p .records .candidate);
-                    changed = bits-low (p .links .changed);
+                    used = packed-words (s .n) (p .records .used) (sound .shaped .records .used);
+                    held = packed-words (s .n) (p .records .held) (sound .shaped .records .held);
+                    candidates = packed-words (s .n) (p .records .candidate) (sound .shaped .records .candidate);
+                    changed = packed-words (links s) (p .links .changed) (sound .shaped .links .changed);
                     snoops = bits-low (p .workers .snoop);
                   };
               padded = padded-written;

@@ -17,13 +17,16 @@ use Rattle.rules.specs.declared.Sizes.{Sizes}
 use Rattle.rules.specs.declared.RecordNumber.{RecordNumber}
 use Rattle.rules.specs.declared.LinkNumber.{LinkNumber}
 use Rattle.rules.specs.declared.Collector.{Collector}
+use Rattle.rules.specs.Size.{links}
 use Rattle.rules.specs.Pool.{Pool, none, ofRecord, usedAt, countAt, heldAt, candidateAt, valueAt, changedAt, registersAt, registerAt, snoopsAt, logAt}
 use Rattle.rules.specs.Collect.{noEntry}
 use Rattle.tables.specs.Tables.{Tables}
-use Rattle.tables.specs.Lie.{isOn, marks, recordNumber, recordNumbers, cut, poolOf}
+use Rattle.tables.specs.Bits.{marksIn, markAt}
+use Rattle.tables.specs.Lie.{isOn, recordNumber, recordNumbers, cut, poolOf}
 use Rattle.tables.specs.Known.{block, Known}
 use Rattle.tables.proofs.Blocks.{length-cut, cut-at}
 use Rattle.tables.proofs.Entered.{entryIn, length-entries, entries-at}
+use Rattle.tables.proofs.Packed.{mark-stands}
 use Rattle.tables.proofs.RoundTrip.{log-known}
 use Rattle.laws.proofs.Lists.{map-at}
 
@@ -36,9 +39,9 @@ pub number-of : (xs : List ℕ) (i : ℕ) → 1 ≤ i → ofRecord xs i 0 ≡ ge
 number-of xs zero h = absurd (not-suc-le-zero h)
 number-of xs (suc i) h = ap (λ (k : ℕ). getD xs k 0) (less-one i)
 
-pub mark-of : (xs : List ℕ) (i : ℕ) → 1 ≤ i → ofRecord (marks xs) i false ≡ isOn (getD xs (i - 1) 0)
-mark-of xs zero h = absurd (not-suc-le-zero h)
-mark-of xs (suc i) h = List·getD-map isOn xs i 0 ∙ ap (λ (k : ℕ). isOn (getD xs k 0)) (less-one i)
+pub mark-of : (n : ℕ) (words : List ℕ) (i : ℕ) → 1 ≤ i → i ≤ n → ofRecord (marksIn n words) i false ≡ markAt words (i - 1)
+mark-of n words zero h k = absurd (not-suc-le-zero h)
+mark-of n words (suc i) h k = mark-stands n words i k ∙ ap (markAt words) (less-one i)
 
 module _ (s : Sizes) (t : Tables) (c : Collector) where
   abbrev p : Pool
@@ -48,17 +51,17 @@ module _ (s : Sizes) (t : Tables) (c : Collector) where
   unfolding poolOf
   count-stands a h = number-of (t .counts) (a .0) h
 
-  pub used-stands : (a : RecordNumber) → 1 ≤ a .0 → usedAt p a ≡ isOn (getD (t .used) (a .0 - 1) 0)
+  pub used-stands : (a : RecordNumber) → 1 ≤ a .0 → a .0 ≤ s .n → usedAt p a ≡ markAt (t .used) (a .0 - 1)
   unfolding poolOf
-  used-stands a h = mark-of (t .used) (a .0) h
+  used-stands a h k = mark-of (s .n) (t .used) (a .0) h k
 
-  pub held-stands : (a : RecordNumber) → 1 ≤ a .0 → heldAt p a ≡ isOn (getD (t .held) (a .0 - 1) 0)
+  pub held-stands : (a : RecordNumber) → 1 ≤ a .0 → a .0 ≤ s .n → heldAt p a ≡ markAt (t .held) (a .0 - 1)
   unfolding poolOf
-  held-stands a h = mark-of (t .held) (a .0) h
+  held-stands a h k = mark-of (s .n) (t .held) (a .0) h k
 
-  pub candidate-stands : (a : RecordNumber) → 1 ≤ a .0 → candidateAt p a ≡ isOn (getD (t .candidates) (a .0 - 1) 0)
+  pub candidate-stands : (a : RecordNumber) → 1 ≤ a .0 → a .0 ≤ s .n → candidateAt p a ≡ markAt (t .candidates) (a .0 - 1)
   unfolding poolOf
-  candidate-stands a h = mark-of (t .candidates) (a .0) h
+  candidate-stands a h k = mark-of (s .n) (t .candidates) (a .0) h k
 
   -- ---- links
 
@@ -66,9 +69,9 @@ module _ (s : Sizes) (t : Tables) (c : Collector) where
   unfolding poolOf
   value-stands l = List·getD-map recordNumber (t .values) (l .0) 0
 
-  pub changed-stands : (l : LinkNumber) → changedAt p l ≡ isOn (getD (t .changed) (l .0) 0)
+  pub changed-stands : (l : LinkNumber) → l .0 < links s → changedAt p l ≡ markAt (t .changed) (l .0)
   unfolding poolOf
-  changed-stands l = List·getD-map isOn (t .changed) (l .0) 0
+  changed-stands l h = mark-stands (links s) (t .changed) (l .0) h
 
   -- ---- workers
 

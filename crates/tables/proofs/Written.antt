@@ -1,5 +1,5 @@
 -- One thing of a pool changed, and the tables of the pool after it.
---     number-set, mark-record, mark-set     what is written for a record, in a table of numbers and in one of marks
+--     number-set                            what is written for a record, in a table of numbers
 --     register-written, last-written        a register takes a record number; the last made number is another
 --     value-written, changed-written, snoop-written     a link's value, its mark, a worker's flag
 --     falls-written               a count falls
@@ -21,29 +21,23 @@ use Rattle.rules.specs.Size.{links}
 use Rattle.rules.specs.Pool.{Entry, Pool, withRecord, countAt, registersAt, logAt, withValue, withChanged, withRegister, withLast, withSnoop, withLog}
 use Rattle.rules.specs.View.{bit}
 use Rattle.rules.specs.Collect.{falls}
-use Rattle.rules.specs.Sound.{Each, ShapedWorkers}
+use Rattle.rules.specs.Sound.{ShapedWorkers}
 use Rattle.tables.specs.Tables.{Tables, putCounts, putCandidates, putValues, putChanged, putRegisters, putSnoops, putLogs, putLengths}
-use Rattle.tables.specs.Lie.{marks, bits, numbers, laid, room, tablesOf}
+use Rattle.tables.specs.Bits.{wordsOf, marked, markRecord}
+use Rattle.tables.specs.Lie.{numbers, laid, room, tablesOf}
 use Rattle.tables.specs.Counted.{fewer, fallen}
 use Rattle.tables.proofs.Blocks.{Sized, set-append-add, joined-set}
 use Rattle.tables.proofs.Entered.{laid-added}
-use Rattle.tables.proofs.Marks.{bits-marks}
+use Rattle.tables.proofs.Packed.{marked-written, record-written}
 use Rattle.tables.proofs.RoundTrip.{rows-sized, sized-rows, length-rows, sized-logs}
 use Rattle.laws.proofs.Number.{block-inside}
-use Rattle.laws.proofs.Lists.{Each-at, Each-set, map-set, map-withRecord, map-at}
+use Rattle.laws.proofs.Lists.{Each-at, Each-set, map-set, map-at}
 
 -- ---- for one record
 
 pub number-set : (xs : List ℕ) (i x : ℕ) → 1 ≤ i → withRecord xs i x ≡ set xs (i - 1) x
 number-set xs zero x h = absurd (not-suc-le-zero h)
 number-set xs (suc i) x h = ap (λ (k : ℕ). set xs k x) (let e : i ≡ suc i - 1 = omega arith in e)
-
-pub mark-record : (xs : List ℕ) (i : ℕ) (b : Bool) → Each (λ x. x ≤ 1) xs → bits (withRecord (marks xs) i b) ≡ withRecord xs i (bit b)
-mark-record xs zero b low = bits-marks xs low
-mark-record xs (suc i) b low = map-set bit (marks xs) i b ∙ ap (λ (ys : List ℕ). set ys i (bit b)) (bits-marks xs low)
-
-pub mark-set : (xs : List ℕ) (i : ℕ) (b : Bool) → 1 ≤ i → Each (λ x. x ≤ 1) xs → bits (withRecord (marks xs) i b) ≡ set xs (i - 1) (bit b)
-mark-set xs i b h low = mark-record xs i b low ∙ number-set xs i (bit b) h
 
 -- ---- one thing of a pool
 
@@ -52,26 +46,26 @@ module _ (s : Sizes) (p : Pool) where
   unfolding tablesOf
   value-written l x = ap (λ (table : List ℕ). putValues table (tablesOf s p)) (map-set (λ a. a .0) (p .links .value) (l .0) x)
 
-  pub changed-written : (l : LinkNumber) (b : Bool) → tablesOf s (withChanged l b p) ≡ putChanged (set (tablesOf s p .changed) (l .0) (bit b)) (tablesOf s p)
+  pub changed-written : (l : LinkNumber) (b : Bool) → l .0 < length (p .links .changed) → tablesOf s (withChanged l b p) ≡ putChanged (marked (tablesOf s p .changed) (l .0) b) (tablesOf s p)
   unfolding tablesOf
-  changed-written l b = ap (λ (table : List ℕ). putChanged table (tablesOf s p)) (map-set bit (p .links .changed) (l .0) b)
+  changed-written l b h = ap (λ (table : List ℕ). putChanged table (tablesOf s p)) (marked-written (p .links .changed) (l .0) b h)
 
   pub snoop-written : (w : ℕ) (b : Bool) → tablesOf s (withSnoop w b p) ≡ putSnoops (set (tablesOf s p .snoops) w (bit b)) (tablesOf s p)
   unfolding tablesOf
   snoop-written w b = ap (λ (table : List ℕ). putSnoops table (tablesOf s p)) (map-set bit (p .workers .snoop) w b)
 
   -- "the count .. falls by 1, and at 0 it becomes a candidate"
-  pub falls-written : (a : RecordNumber) → let t : Tables = tablesOf s p in
+  pub falls-written : (a : RecordNumber) → a .0 ≤ length (p .records .candidate) → let t : Tables = tablesOf s p in
       tablesOf s (falls a p) ≡ putCounts (fewer (a .0) (t .counts)) (putCandidates (fallen (a .0) (t .counts) (t .candidates)) t)
   unfolding tablesOf falls fewer fallen
-  falls-written a =
+  falls-written a h =
       ap (λ (candidates : List ℕ). putCounts (fewer (a .0) (p .records .count)) (putCandidates candidates (tablesOf s p))) (by-zero (eqb (countAt p a - 1) 0))
     where
       candidates : List Bool
       candidates = p .records .candidate
 
-      by-zero : (b : Bool) → bits (cond b (withRecord candidates (a .0) true) candidates) ≡ cond b (withRecord (bits candidates) (a .0) 1) (bits candidates)
-      by-zero true = map-withRecord bit candidates (a .0) true
+      by-zero : (b : Bool) → wordsOf (cond b (withRecord candidates (a .0) true) candidates) ≡ cond b (markRecord (wordsOf candidates) (a .0) true) (wordsOf candidates)
+      by-zero true = record-written candidates (a .0) true h
       by-zero false = refl
 
 -- ---- one thing of a worker, where every list has its length

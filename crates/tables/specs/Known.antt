@@ -1,6 +1,6 @@
 -- Tables of a sound pool.
 --     Exact          every table has its length
---     Marked         "marks and flags 0 or 1"
+--     Marked         "marks and flags 0 or 1", and unused bits 0
 --     block          the room of a worker's log
 --     Padded         "0 in every entry past a list's length"
 --     SoundTables    tables in which a sound pool lies
@@ -15,30 +15,31 @@ use Rattle.rules.specs.declared.Sizes.{Sizes}
 use Rattle.rules.specs.declared.Collector.{Collector}
 use Rattle.rules.specs.Size.{inRange, links}
 use Rattle.rules.specs.Sound.{Each, Sound}
+use Rattle.tables.specs.Bits.{wordCount, Packed}
 use Rattle.tables.specs.Tables.{Tables}
 use Rattle.tables.specs.Lie.{room, poolOf}
 
--- "lent tables of 16-bit numbers whose lengths must be exact"
+-- "lent tables of 16-bit numbers whose lengths must be exact", and the marks of the four kinds in 64-bit words (document 02, request 9)
 pub record Exact (s : Sizes) (t : Tables) : Type 0 where
-  pub used : length (t .used) ≡ s .n
+  pub used : length (t .used) ≡ wordCount (s .n)
   pub counts : length (t .counts) ≡ s .n
-  pub held : length (t .held) ≡ s .n
-  pub candidates : length (t .candidates) ≡ s .n
+  pub held : length (t .held) ≡ wordCount (s .n)
+  pub candidates : length (t .candidates) ≡ wordCount (s .n)
   pub makers : length (t .makers) ≡ s .n
   pub values : length (t .values) ≡ links s
-  pub changed : length (t .changed) ≡ links s
+  pub changed : length (t .changed) ≡ wordCount (links s)
   pub registers : length (t .registers) ≡ s .w * s .r + 1
   pub snoops : length (t .snoops) ≡ s .w
   pub logs : length (t .logs) ≡ s .w * room s
   pub history : length (t .history) ≡ room s
   pub lengths : length (t .lengths) ≡ s .w + 1
 
--- "marks and flags 0 or 1"
-pub record Marked (t : Tables) : Type 0 where
-  pub used : Each (λ x. x ≤ 1) (t .used)
-  pub held : Each (λ x. x ≤ 1) (t .held)
-  pub candidates : Each (λ x. x ≤ 1) (t .candidates)
-  pub changed : Each (λ x. x ≤ 1) (t .changed)
+-- "marks and flags 0 or 1": "A sound pool has the unused bits at 0" (document 02, request 9), and every other bit is a mark
+pub record Marked (s : Sizes) (t : Tables) : Type 0 where
+  pub used : Packed (s .n) (t .used)
+  pub held : Packed (s .n) (t .held)
+  pub candidates : Packed (s .n) (t .candidates)
+  pub changed : Packed (links s) (t .changed)
   pub snoops : Each (λ x. x ≤ 1) (t .snoops)
 
 -- worker w's block of the logs
@@ -52,7 +53,7 @@ pub record Padded (s : Sizes) (t : Tables) : Type 0 where
 
 -- "A sound pool", of tables
 pub record SoundTables (s : Sizes) (t : Tables) (c : Collector) : Type 0 where
-  pub marked : Marked t
+  pub marked : Marked s t
   pub padded : Padded s t
   pub sound : Sound s (poolOf s t c)
 

@@ -4,6 +4,7 @@
 --     Known      the exact lengths, the two clauses of "A sound pool" that only tables can break, and tables of a sound pool
 --     Event      an event on lent tables
 --     Counted    a count that falls or rises, in its table
+pub mod Bits
 pub mod Tables
 pub mod Lie
 pub mod Known

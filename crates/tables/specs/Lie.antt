@@ -1,6 +1,6 @@
 -- How a pool lies in lent tables, and which pool any tables mean, nonsense included (decisions 1 and 2 of docs/DECISIONS.md). On tables of the right shape each
 -- undoes the other: proofs/RoundTrip.antt.
---     isOn                       a mark or a flag that is kept as a number
+--     isOn                       a flag that is kept as a number
 --     cut                        a table in blocks of one size
 --     entries, laid              a list of entries, read from and written to its room
 --     poolOf                     the pool that tables mean
@@ -18,9 +18,10 @@ use Rattle.rules.specs.declared.Collector.{Collector}
 use Rattle.rules.specs.Size.{links}
 use Rattle.rules.specs.Pool.{Entry, Pool}
 use Rattle.rules.specs.View.{bit}
+use Rattle.tables.specs.Bits.{marksIn, wordsOf}
 use Rattle.tables.specs.Tables.{Tables}
 
--- ---- marks and numbers
+-- ---- flags and numbers
 
 -- off is 0 and on is 1; of another number, which no sound pool has, on
 abbrev pub isOn : ℕ → Bool
@@ -79,13 +80,13 @@ poolOf s t c =
     record {
       records =
           record {
-            used = marks (t .used);
+            used = marksIn (s .n) (t .used);
             count = t .counts;
-            held = marks (t .held);
-            candidate = marks (t .candidates);
+            held = marksIn (s .n) (t .held);
+            candidate = marksIn (s .n) (t .candidates);
             maker = t .makers;
           };
-      links = record { value = recordNumbers (t .values); changed = marks (t .changed) };
+      links = record { value = recordNumbers (t .values); changed = marksIn (links s) (t .changed) };
       workers =
           record {
             registers = map recordNumbers (cut (s .w) (s .r) (t .registers));
@@ -102,13 +103,13 @@ poolOf s t c =
 unfoldable pub tablesOf : Sizes → Pool → Tables
 tablesOf s p =
     record {
-      used = bits (p .records .used);
+      used = wordsOf (p .records .used);
       counts = p .records .count;
-      held = bits (p .records .held);
-      candidates = bits (p .records .candidate);
+      held = wordsOf (p .records .held);
+      candidates = wordsOf (p .records .candidate);
       makers = p .records .maker;
       values = numbers (p .links .value);
-      changed = bits (p .links .changed);
+      changed = wordsOf (p .links .changed);
       registers = flatten (map numbers (p .workers .registers)) ++ (p .last .0 ∷ []);
       snoops = bits (p .workers .snoop);
       logs = flatten (map (laid (links s)) (p .workers .log));

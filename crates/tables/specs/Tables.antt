@@ -1,4 +1,5 @@
--- "All but the collector's own record lives in lent tables of 16-bit numbers whose lengths must be exact" ("Sizes" of document 01). Which tables there are and
+-- "All but the collector's own record lives in lent tables of 16-bit numbers whose lengths must be exact" ("Sizes" of document 01), with the marks of records
+-- and links in 64-bit words (document 02, request 9). Which tables there are and
 -- what stands where is decisions 1 and 2 of docs/DECISIONS.md.
 --     Tables                   the twelve tables
 --     lent                     the tables behind twelve references
@@ -9,14 +10,15 @@ use mathlib.Core.List.{List}
 use denote.Ref.{RefT, now}
 
 pub record Tables : Type 0 where
-  -- N each: record a at place a - 1
+  -- used, held and candidates: (N + 63) / 64 words, record a at bit a - 1; counts and makers: N, record a at place a - 1
   pub used : List ℕ
   pub counts : List ℕ
   pub held : List ℕ
   pub candidates : List ℕ
   pub makers : List ℕ
-  -- S each: link l at place l
+  -- S: link l at place l
   pub values : List ℕ
+  -- (S + 63) / 64 words: link l at bit l
   pub changed : List ℕ
   -- W x R + 1: register r of worker w at place w x R + r; behind them the last made number
   pub registers : List ℕ

@@ -6,6 +6,7 @@ ghost use mathlib.Core.Path.{_≡_};
 ghost use mathlib.Core.Bool.{true};
 ghost use Prim.Native.Nat.{_+_, _-_, _*_, _≤_, _<_};
 ghost use Rattle.rules.specs.Size.{inRange, links, linkNumber, boardNumber};
+ghost use Rattle.tables.specs.Bits.{wordCount};
 ghost use Rattle.tables.specs.Lie.{room};
 
 // "N records 1..1024, K links in each 1..8, W workers 1..8, R registers per worker 1..16." "Add B entries, 0 to 16" (document 02, request 5)
@@ -24,6 +25,13 @@ pub fn wide(x: u16) -> usize
     ensures { λ y. ⌜ y ≡ x ⌝ }
 {
     x as usize
+}
+
+// "(N + 63) / 64 words" (document 02, request 9)
+pub fn word_count(n: u16) -> usize
+    ensures { λ x. ⌜ x ≡ wordCount n ⌝ }
+{
+    (wide(n) + 63) / 64
 }
 
 // "record a at place a - 1"

@@ -20,14 +20,15 @@ use Rattle.rules.specs.declared.Answer.the-variants.{Fresh, Refused}
 use Rattle.rules.specs.declared.Collector.{Collector}
 use Rattle.rules.specs.Size.{inRange}
 use Rattle.rules.specs.Pool.{Pool, fresh}
-use Rattle.rules.specs.Outcome.{answers, after, freeMarks}
+use Rattle.rules.specs.Outcome.{answers, after}
 use Rattle.soundness.proofs.Kept.{fresh-is-sound}
 use Rattle.tables.specs.Tables.{Tables}
-use Rattle.tables.specs.Lie.{marks, poolOf}
+use Rattle.tables.specs.Lie.{poolOf}
 use Rattle.tables.specs.Event.{Called, written}
 use Rattle.tables.proofs.RoundTrip.{pool-of-tables}
 use Rattle.fresh.specs.Fits.{isExact, refusedOn}
 use Rattle.fresh.specs.Fresh.{madeFresh}
+use Rattle.fresh.specs.Free.{freeIn}
 use Rattle.fields.specs.declared.Stage.the-variants.{First}
 use Rattle.fields.specs.declared.Field.{Field}
 use Rattle.fields.specs.declared.Field.the-variants as field
@@ -106,7 +107,7 @@ module _ {s : Sizes} {t : Tables} {y : Called} (range : inRange s ≡ true) (sta
 
   pub sized-reports : {x : Told} {left : Tables} {filled : List ℤ} {stood : Stood} {ending : Ending}
       → Tells (toldOn s (y .tables) (y .collector) bytes place 0 tally room) x left filled
-      → stood ≡ standBehind true (freeMarks (marks (left .used))) (x .ran .collector .closed) bytes (x .ran .next) (behind (x .ran .step))
+      → stood ≡ standBehind true (freeIn (s .n) (left .used)) (x .ran .collector .closed) bytes (x .ran .next) (behind (x .ran .step))
       → ending ≡ endingOf (stood .stand) (x .ran .next)
       → reportSized s t c bytes place room
       ≡ record {

@@ -47,13 +47,13 @@ pub struct Report {
 // closes are put into `numbers` in turn, as far as there is room: what it took, what it freed, and the net. Inner.
 pub fn tally_events(
     s: Sizes,
-    used: &mut [u16],
+    used: &mut [u64],
     counts: &mut [u16],
-    held: &mut [u16],
-    candidates: &mut [u16],
+    held: &mut [u64],
+    candidates: &mut [u64],
     makers: &mut [u16],
     values: &mut [u16],
-    changed: &mut [u16],
+    changed: &mut [u64],
     registers: &mut [u16],
     snoops: &mut [u16],
     logs: &mut [u16],
@@ -149,13 +149,13 @@ fn unreported(ending: Ending, c: Collector) -> Report
 // A trace behind its sizes field: the pool is made fresh, if the lent tables have these sizes' lengths, and the events are done and tallied.
 fn report_sized(
     s: Sizes,
-    used: &mut [u16],
+    used: &mut [u64],
     counts: &mut [u16],
-    held: &mut [u16],
-    candidates: &mut [u16],
+    held: &mut [u64],
+    candidates: &mut [u64],
     makers: &mut [u16],
     values: &mut [u16],
-    changed: &mut [u16],
+    changed: &mut [u64],
     registers: &mut [u16],
     snoops: &mut [u16],
     logs: &mut [u16],
@@ -223,7 +223,7 @@ fn report_sized(
         stage: Stage::Events,
         step: ran.step,
     };
-    let stood = stand_behind(used, collector.closed, bytes, ran.next, reader, true);
+    let stood = stand_behind(s.n, used, collector.closed, bytes, ran.next, reader, true);
     let stand = stood.stand;
     let ending = ending_of(stand, ran.next);
     Report {
@@ -240,13 +240,13 @@ fn report_sized(
 // that closes are put into `numbers` in turn, as far as there is room: what it took, what it freed, and the net. Two wrong programs that the contract rules out: one
 // that answers how many cycles have closed by the closed-cycle number, and one that puts a cycle that is still open.
 pub fn report_trace(
-    used: &mut [u16],
+    used: &mut [u64],
     counts: &mut [u16],
-    held: &mut [u16],
-    candidates: &mut [u16],
+    held: &mut [u64],
+    candidates: &mut [u64],
     makers: &mut [u16],
     values: &mut [u16],
-    changed: &mut [u16],
+    changed: &mut [u64],
     registers: &mut [u16],
     snoops: &mut [u16],
     logs: &mut [u16],

@@ -7,7 +7,7 @@
 use Prim.Native.Nat.{ℕ, zero, suc, _+_, _-_, _≤_, _<_}
 use mathlib.Core.Path.{_≡_, refl, sym, ap, _∙_}
 use mathlib.Core.Bool.{Bool, true, false, cond, not, _&&_}
-use mathlib.Core.List.{List, [], _∷_}
+use mathlib.Core.List.{List, []}
 use mathlib.Core.Logic.{_⊎_, inl, inr, ⊎-elim}
 use native.Mathlib.Omega.{arith}
 use borrow.Author.Tests.{lt-ltb, le-ltb}
@@ -17,9 +17,8 @@ use Rattle.rules.specs.declared.Sizes.{Sizes}
 use Rattle.rules.specs.declared.Refusal.{Refusal}
 use Rattle.rules.specs.declared.Refusal.the-variants.{WrongTag}
 use Rattle.rules.specs.Pool.{Pool}
-use Rattle.rules.specs.Outcome.{freeMarks, freeRecords}
+use Rattle.rules.specs.Outcome.{freeRecords}
 use Rattle.laws.proofs.Tests.{below-or-not}
-use Rattle.tables.specs.Lie.{isOn, marks}
 use Rattle.fields.specs.declared.Stage.the-variants.{Events, Ended}
 use Rattle.fields.specs.declared.Reader.{Reader}
 use Rattle.fields.specs.declared.Field.{Field}
@@ -51,18 +50,6 @@ look wait onward free closed place reader x =
       | field.Nothing ↦ ended (Whole free closed) place reader
       | field.Refused why at ↦ ended (Stopped why at) place reader
     ])
-
--- ---- the free records
-
--- there are no more of them than marks
-pub free-most : (used : List ℕ) → freeMarks (marks used) ≤ length used
-unfolding freeMarks
-free-most [] = omega arith
-free-most (x ∷ used) = by-mark (isOn x) (free-most used)
-  where
-    by-mark : (b : Bool) → freeMarks (marks used) ≤ length used → freeMarks (b ∷ marks used) ≤ suc (length used)
-    by-mark true few = omega arith
-    by-mark false few = omega arith
 
 -- ---- the test of the bytes that are left
 

@@ -10,6 +10,7 @@
 --     Lines         the lines of a run
 --     Promised      what is promised of a whole trace
 --     OneResult     two results of the call that both satisfy its contract are equal
+--     StandsFor     packed tables and the old ones that they stand for are left alike by a whole trace
 pub mod Turns
 pub mod Along
 pub mod Behind
@@ -21,3 +22,4 @@ pub mod WholeCase
 pub mod Lines
 pub mod Promised
 pub mod OneResult
+pub mod StandsFor

@@ -19,15 +19,20 @@ use Rattle.rules.specs.declared.Collector.{Collector}
 use Rattle.rules.specs.Size.{inRange}
 use Rattle.rules.specs.Pool.{Pool, fresh}
 use Rattle.rules.specs.Outcome.{outcome, answers, after, freeMarks, freeRecords}
-use Rattle.soundness.proofs.Kept.{fresh-is-sound}
+use Rattle.rules.specs.Sound.{Sound}
+use Rattle.laws.proofs.Runs.{run-keeps}
+use Rattle.soundness.proofs.Kept.{fresh-is-sound, event-keeps-sound}
 use Rattle.tables.specs.Tables.{Tables}
-use Rattle.tables.specs.Lie.{marks, tablesOf}
+use Rattle.tables.specs.Bits.{wordsOf}
+use Rattle.tables.specs.Lie.{tablesOf}
 use Rattle.tables.specs.Known.{Known}
 use Rattle.tables.specs.Event.{Called, written}
-use Rattle.tables.proofs.Marks.{marks-bits}
+use Rattle.tables.proofs.Packed.{length-wordsOf, packed-words, marks-words}
 use Rattle.tables.proofs.RoundTrip.{pool-of-tables, sound-known}
 use Rattle.fresh.specs.Fits.{isExact, refusedOn}
 use Rattle.fresh.specs.Fresh.{madeFresh}
+use Rattle.fresh.specs.Free.{freeIn}
+use Rattle.fresh.proofs.Free.{free-marks}
 use Rattle.trace.specs.declared.Ending.{Ending}
 use Rattle.trace.specs.declared.Ending.the-variants.{Stopped}
 use Rattle.trace.specs.declared.Stood.{Stood}
@@ -82,9 +87,12 @@ length-lines s p step [] = refl
 length-lines s p step (e ∷ events) = ap suc (length-lines s (outcome s p e .pool) (suc step) events)
 
 -- the free records, counted in the table of a pool
-pub free-written : (s : Sizes) (q : Pool) → freeRecords q ≡ freeMarks (marks (tablesOf s q .used))
+pub free-written : (s : Sizes) (q : Pool) → Sound s q → freeRecords q ≡ freeIn (s .n) (tablesOf s q .used)
 unfolding freeRecords tablesOf
-free-written s q = ap freeMarks (sym (marks-bits (q .records .used)))
+free-written s q sound =
+    let used : List Bool = q .records .used in
+    let size : length used ≡ s .n = sound .shaped .records .used in
+    sym (free-marks (s .n) (wordsOf used) (length-wordsOf (s .n) used size) (packed-words (s .n) used size) ∙ ap freeMarks (marks-words (s .n) used size))
 
 module _ {s : Sizes} {t : Tables} {y : Called} (range : inRange s ≡ true) (started : Started s t y) where
   pub started-known : Known s (y .tables) (y .collector)
@@ -94,7 +102,7 @@ module _ {s : Sizes} {t : Tables} {y : Called} (range : inRange s ≡ true) (sta
   module _ (c : Collector) (bytes : List ℕ) (place : ℕ) (room : List ℕ) where
     -- how the trace stands behind the events that were done
     abbrev standing : RanOn → Stood
-    standing x = standBehind true (freeMarks (marks (x .tables .used))) (x .ran .collector .closed) bytes (x .ran .next) (behind (x .ran .step))
+    standing x = standBehind true (freeIn (s .n) (x .tables .used)) (x .ran .collector .closed) bytes (x .ran .next) (behind (x .ran .step))
 
     -- the whole, from that
     abbrev whole : RanOn → Traced
@@ -111,6 +119,7 @@ module _ {s : Sizes} {t : Tables} {y : Called} (range : inRange s ≡ true) (sta
         let takes : Sizes → Bool = (λ s. isExact s t) in
         let x = stretch bytes place 0 in
         let q = after s (fresh s) (x .events) in
+        let sound : Sound s q = run-keeps s (Sound s) (event-keeps-sound s range) (fresh s) (fresh-is-sound s) (x .events) in
         let lines = linesBehind 0 (answers s (fresh s) (x .events)) in
         ap (λ (b : Bool). tracedBy t c room (cond b (goesOn takes bytes place (behind 0) (stands s (fresh s))) (stops WrongSize 0 untouched))) (started .exact)
         ∙ ap (tracedBy t c room)
@@ -119,7 +128,7 @@ module _ {s : Sizes} {t : Tables} {y : Called} (range : inRange s ≡ true) (sta
         record {
           replay =
               record {
-                ending = endingOf (standBehind true (free-written s q j) (q .collector .closed) bytes (x .next) (behind (x .step)) .stand) (x .next);
+                ending = endingOf (standBehind true (free-written s q sound j) (q .collector .closed) bytes (x .next) (behind (x .step)) .stand) (x .next);
                 events = (ap length (append-nil lines) ∙ length-lines s (fresh s) 0 (x .events)) j;
                 collector = q .collector;
               };

@@ -4,8 +4,10 @@
 --     Stand       how a trace stands behind them, of which a part has been read
 --     Traced      a whole trace on lent tables
 --     Promise     the words of what is promised of a whole trace
+--     Old         a whole trace on tables with a number for each mark
 pub mod Replay
 pub mod Stretch
 pub mod Stand
 pub mod Traced
 pub mod Promise
+pub mod Old

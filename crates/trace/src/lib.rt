@@ -19,13 +19,10 @@ use rules::Refusal;
 use rules::Sizes;
 ghost use mathlib.Core.Path.{_≡_};
 ghost use mathlib.Core.Bool.{true};
-ghost use Prim.Native.Nat.{_≤_};
-ghost use lib.ListN.{length};
 ghost use Rattle.rules.specs.Size.{inRange};
-ghost use Rattle.rules.specs.Outcome.{freeMarks};
 ghost use Rattle.tables.specs.Tables.{lent};
-ghost use Rattle.tables.specs.Lie.{marks};
 ghost use Rattle.tables.specs.Known.{Known};
+ghost use Rattle.fresh.specs.Free.{freeIn};
 ghost use Rattle.trace.specs.Stretch.{ranOn};
 ghost use Rattle.trace.specs.Stand.{standBehind, endingOf};
 ghost use Rattle.trace.specs.Traced.{traced, sized};
@@ -68,13 +65,13 @@ pub struct Stood {
 // are put into `answers` in turn, as far as there is room. Inner.
 pub fn run_events(
     s: Sizes,
-    used: &mut [u16],
+    used: &mut [u64],
     counts: &mut [u16],
-    held: &mut [u16],
-    candidates: &mut [u16],
+    held: &mut [u64],
+    candidates: &mut [u64],
     makers: &mut [u16],
     values: &mut [u16],
-    changed: &mut [u16],
+    changed: &mut [u64],
     registers: &mut [u16],
     snoops: &mut [u16],
     logs: &mut [u16],
@@ -139,15 +136,15 @@ pub fn run_events(
 // How a trace stands behind its events: at the end field and nothing more behind it, or at what is refused. Where fewer than 13 bytes are left and more may come
 // a field may not have been read whole. Inner.
 pub fn stand_behind(
-    used: &[u16],
+    n: u16,
+    used: &[u64],
     closed: u16,
     bytes: &[u8],
     place: usize,
     reader: Reader,
     last: bool,
 ) -> Stood
-    requires { ⌜ length (now used) ≤ 1024 ⌝ }
-    ensures { λ x. ⌜ x ≡ standBehind last (freeMarks (marks (now (used .entry)))) closed (now (bytes .entry)) place reader ⌝ }
+    ensures { λ x. ⌜ x ≡ standBehind last (freeIn n (now (used .entry))) closed (now (bytes .entry)) place reader ⌝ }
 {
     let mut fields: usize = 2;
     let mut next = place;
@@ -170,7 +167,7 @@ pub fn stand_behind(
             }
             Field::Nothing => {
                 return Stood {
-                    stand: Stand::Ended(Ending::Whole(free_records(used) as u16, closed)),
+                    stand: Stand::Ended(Ending::Whole(free_records(n, used) as u16, closed)),
                     next,
                     reader: now,
                 };
@@ -207,13 +204,13 @@ pub fn ending_of(stand: Stand, place: usize) -> Ending
 // A trace behind its sizes field: the pool is made fresh, if the lent tables have these sizes' lengths, and the events are done.
 fn replay_sized(
     s: Sizes,
-    used: &mut [u16],
+    used: &mut [u64],
     counts: &mut [u16],
-    held: &mut [u16],
-    candidates: &mut [u16],
+    held: &mut [u64],
+    candidates: &mut [u64],
     makers: &mut [u16],
     values: &mut [u16],
-    changed: &mut [u16],
+    changed: &mut [u64],
     registers: &mut [u16],
     snoops: &mut [u16],
     logs: &mut [u16],
@@ -278,7 +275,7 @@ fn replay_sized(
         stage: Stage::Events,
         step: ran.step,
     };
-    let stood = stand_behind(used, collector.closed, bytes, ran.next, reader, true);
+    let stood = stand_behind(s.n, used, collector.closed, bytes, ran.next, reader, true);
     let stand = stood.stand;
     Replay {
         ending: ending_of(stand, ran.next),
@@ -291,13 +288,13 @@ fn replay_sized(
 // its lengths. Each event's number and value are put into `answers` in turn, as far as there is room. Two wrong programs that the contract rules out: one that
 // refuses every trace, and one that does not make the pool fresh.
 pub fn replay_trace(
-    used: &mut [u16],
+    used: &mut [u64],
     counts: &mut [u16],
-    held: &mut [u16],
-    candidates: &mut [u16],
+    held: &mut [u64],
+    candidates: &mut [u64],
     makers: &mut [u16],
     values: &mut [u16],
-    changed: &mut [u16],
+    changed: &mut [u64],
     registers: &mut [u16],
     snoops: &mut [u16],
     logs: &mut [u16],

@@ -11,7 +11,7 @@ use mathlib.Core.List.{List}
 use native.Mathlib.Omega.{arith}
 use borrow.Author.Tests.{ne-eqb}
 use lib.Dec.{eqb}
-use lib.ListN.{getD, set, length-map}
+use lib.ListN.{getD, set}
 use Rattle.rules.specs.declared.Sizes.{Sizes}
 use Rattle.rules.specs.declared.RecordNumber.{RecordNumber}
 use Rattle.rules.specs.declared.LinkNumber.{LinkNumber}
@@ -26,12 +26,14 @@ use Rattle.rules.specs.Outcome.{hasWorker, hasRegister, hasLink, hasEntry, none
 use Rattle.laws.proofs.Chosen.{chosen-low}
 use Rattle.laws.proofs.Refusals.{register-there, registers-there, hasNumbers, numbers-there, entry-there}
 use Rattle.tables.specs.Tables.{Tables, putUsed, putMakers, putRegisters}
-use Rattle.tables.specs.Lie.{isOn, marks, recordNumber, bits, poolOf, tablesOf}
+use Rattle.tables.specs.Bits.{marksIn, wordsOf, marked}
+use Rattle.tables.specs.Lie.{recordNumber, poolOf, tablesOf}
 use Rattle.tables.specs.Known.{Known}
 use Rattle.tables.specs.Event.{eventOn}
 use Rattle.tables.proofs.RoundTrip.{known-back}
 use Rattle.tables.proofs.Stand.{value-stands, register-stands}
-use Rattle.tables.proofs.Written.{number-set, mark-set, register-written, last-written}
+use Rattle.tables.proofs.Packed.{length-marksIn, mark-record, mark-place}
+use Rattle.tables.proofs.Written.{number-set, register-written, last-written}
 use Rattle.tables.proofs.Done.{done-on}
 use Rattle.worker.proofs.Refused.{unrefused}
 
@@ -72,7 +74,7 @@ module _ {s : Sizes} {t : Tables} {c : Collector} (known : Known s t c) where
       record { answer = Moved a; collector = c; tables = putRegisters (set (t .registers) (place w r) (a .0)) t })
 
   -- the marks and the number that a make's search goes by
-  pub marks-stand : p .records .used ≡ marks (t .used)
+  pub marks-stand : p .records .used ≡ marksIn (s .n) (t .used)
   unfolding poolOf
   marks-stand = refl
 
@@ -85,7 +87,7 @@ module _ {s : Sizes} {t : Tables} {c : Collector} (known : Known s t c) where
 
   pub chosen-inside : chosen p .0 ≤ s .n
   unfolding poolOf
-  chosen-inside = omega (arith, chosen-low p, length-map (t .used) isOn, known .exact .used)
+  chosen-inside = omega (arith, chosen-low p, length-marksIn (s .n) (t .used) (known .exact .used))
 
   pub made : (w r : ℕ) → (hasWorker s w && hasRegister s r) ≡ true → 1 ≤ chosen p .0
       → let a : ℕ = chosen p .0 in
@@ -93,7 +95,7 @@ module _ {s : Sizes} {t : Tables} {c : Collector} (known : Known s t c) where
       ≡ record {
         answer = Made (chosen p);
         collector = c;
-        tables = putRegisters (set (set (t .registers) (s .w * s .r) a) (place w r) a) (putMakers (set (t .makers) (a - 1) (w + 1)) (putUsed (set (t .used) (a - 1) 1) t));
+        tables = putRegisters (set (set (t .registers) (s .w * s .r) a) (place w r) a) (putMakers (set (t .makers) (a - 1) (w + 1)) (putUsed (marked (t .used) (a - 1) true) t));
       }
   unfolding refusals noneFree does makes poolOf tablesOf
   made w r here some =
@@ -108,11 +110,11 @@ module _ {s : Sizes} {t : Tables} {c : Collector} (known : Known s t c) where
       (register-written s (withLast (chosen p) q) shaped w r (chosen p) (at .worker) (at .register)
       ∙ ap (λ (u : Tables). putRegisters (set (u .registers) (place w r) a) u) (last-written s q shaped (chosen p))
       ∙ ap
-      (λ (u : Tables). putRegisters (set (set (u .registers) (s .w * s .r) a) (place w r) a) (putMakers makers (putUsed (bits used) u)))
+      (λ (u : Tables). putRegisters (set (set (u .registers) (s .w * s .r) a) (place w r) a) (putMakers makers (putUsed (wordsOf used) u)))
       (known-back known)
       ∙ (λ j.
       putRegisters (set (set (t .registers) (s .w * s .r) a) (place w r) a)
-      (putMakers (number-set (t .makers) a (w + 1) some j) (putUsed (mark-set (t .used) a true some (known .tables .marked .used) j) t))))
+      (putMakers (number-set (t .makers) a (w + 1) some j) (putUsed ((mark-record (s .n) (t .used) a true (known .exact .used) (known .tables .marked .used) chosen-inside ∙ sym (mark-place (t .used) a (a - 1) true some refl)) j) t))))
 
   -- a register takes what a link holds
   pub register-taken : (e : Event) (w r : ℕ) (l : LinkNumber) → outcome s p e ≡ registerTakes w r l p → w < s .w → r < s .r

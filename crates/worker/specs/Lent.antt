@@ -14,8 +14,8 @@ use Rattle.rules.specs.declared.Sizes.{Sizes}
 use Rattle.rules.specs.declared.RecordNumber.{RecordNumber}
 use Rattle.rules.specs.declared.LinkNumber.{LinkNumber}
 use Rattle.rules.specs.Size.{inRange, links}
-use Rattle.rules.specs.Pool.{withRecord}
 use Rattle.tables.specs.Tables.{Tables, putUsed, putHeld, putMakers, putValues, putChanged, putRegisters, putSnoops, putLogs, putLengths}
+use Rattle.tables.specs.Bits.{markAt, marked, markRecord}
 use Rattle.tables.specs.Lie.{isOn, recordNumber, room}
 
 abbrev pub makesOn : (used makers registers : RefT (List ℕ)) → Tables → Tables
@@ -35,10 +35,10 @@ storesOn held values changed registers snoops logs lengths t =
 pub record RoomToLog (s : Sizes) (marks table ns : List ℕ) (w : ℕ) (l : LinkNumber) (marked : Bool) : Type 0 where
   pub sizes : inRange s ≡ true
   pub worker : w < s .w
-  pub link : l .0 < length marks
+  pub link : l .0 < length marks * 64
   pub logs : length table ≡ s .w * room s
   pub lengths : w < length ns
-  pub mark : marked ≡ isOn (getD marks (l .0) 0)
+  pub mark : marked ≡ markAt marks (l .0)
   pub free : marked ≡ false → getD ns w 0 < links s
 
 -- where the next entry of a worker's log begins
@@ -47,12 +47,12 @@ nextEntry s w t = w * room s + getD (t .lengths) w 0 * 2
 
 unfoldable pub loggedOn : Sizes → ℕ → LinkNumber → RecordNumber → Tables → Tables
 loggedOn s w l old t =
-    cond (isOn (getD (t .changed) (l .0) 0)) t
-    (putChanged (set (t .changed) (l .0) 1)
+    cond (markAt (t .changed) (l .0)) t
+    (putChanged (marked (t .changed) (l .0) true)
     (putLogs (set (set (t .logs) (nextEntry s w t) (l .0)) (nextEntry s w t + 1) (old .0)) (putLengths (set (t .lengths) w (getD (t .lengths) w 0 + 1)) t)))
 
 unfoldable pub heldAfter : ℕ → RecordNumber → List ℕ → List ℕ → List ℕ
-heldAfter w a snoops held = cond (isOn (getD snoops w 0)) (withRecord held (a .0) 1) held
+heldAfter w a snoops held = cond (isOn (getD snoops w 0)) (markRecord held (a .0) true) held
 
 -- "the link takes what r holds"
 unfoldable pub linkTaken : Sizes → ℕ → LinkNumber → ℕ → Tables → Tables

@@ -4,7 +4,6 @@
 //     has_worker, has_register, has_link, has_entry       whether the numbers that an event names are there
 //     wrong_number                                        which of them was wrong
 //     chosen, first_free                                  the record that a make takes
-//     full_before, eight_used                             used records, eight in a turn
 //     register_takes                                      what load and look do: a register takes what a link holds
 //     link_takes                                          what store and post do: a link takes what a register holds
 //     logged, snooped                                     the parts of it that may or may not happen
@@ -15,6 +14,8 @@ use rules::LinkNumber;
 use rules::RecordNumber;
 use rules::Refusal;
 use rules::Sizes;
+use tables::flag::is_flagged;
+use tables::mark::first_off;
 use tables::mark::is_on;
 use tables::mark::set_mark;
 use tables::place::board_number;
@@ -32,10 +33,11 @@ ghost use Rattle.rules.specs.Pool.{Pool};
 ghost use Rattle.rules.specs.Worker.{chosen as chosenIn};
 ghost use Rattle.rules.specs.Outcome.{hasWorker, hasRegister, hasLink, hasEntry};
 ghost use Rattle.tables.specs.Tables.{Tables, putRegisters};
-ghost use Rattle.tables.specs.Lie.{marks, recordNumber};
+ghost use Rattle.tables.specs.Bits.{wordCount, marksIn};
+ghost use Rattle.tables.specs.Lie.{recordNumber};
 ghost use Rattle.tables.specs.Event.{SomePool, Answers};
 ghost use Rattle.worker.specs.Lent.{makesOn, loadsOn, storesOn, logsOn, loggedOn, RoomToLog, heldAfter, linkTaken};
-ghost use Rattle.worker.specs.Raw.{wrongNumber, allOn, freeFrom};
+ghost use Rattle.worker.specs.Raw.{wrongNumber, freeFrom};
 
 // "3 means no such worker": there is such a one.
 fn has_worker(s: Sizes, w: u8) -> bool
@@ -78,69 +80,34 @@ fn wrong_number(worker: bool, registers: bool) -> Refusal
     Refusal::NoSuchLink
 }
 
-// Whether the eight records from a place on are used, asked of all eight at once.
-fn eight_used(used: &[u16], place: usize) -> bool
-    requires { ⌜ place + 7 < length (now used) ⌝ }
-    ensures { λ x. ⌜ x ≡ allOn (now (used .entry)) place 7 ⌝ }
+// The first free record from a place on, none where none is free: "read off the first zero bit" (document 02, request 9).
+fn first_free(used: &[u64], n: u16, from: usize) -> RecordNumber
+    requires { ⌜ (n ≤ 1024) × (length (now used) ≡ wordCount n) × (from ≤ n) ⌝ }
+    ensures { λ a. ⌜ a ≡ freeFrom n (now (used .entry)) from ⌝ }
 {
-    is_on(used, place)
-        & is_on(used, place + 1)
-        & is_on(used, place + 2)
-        & is_on(used, place + 3)
-        & is_on(used, place + 4)
-        & is_on(used, place + 5)
-        & is_on(used, place + 6)
-        & is_on(used, place + 7)
-}
-
-// A place between which and another no record is free, found by eights.
-fn full_before(used: &[u16], from: usize) -> usize
-    requires { ⌜ (length (now used) ≤ 1024) × (from ≤ length (now used)) ⌝ }
-    ensures { λ x. ⌜ (x ≤ length (now (used .entry))) × (freeFrom (now (used .entry)) from ≡ freeFrom (now (used .entry)) x) ⌝ }
-{
-    let mut i = from;
-    while i + 7 < used.len() {
-        if !eight_used(used, i) {
-            return i;
-        }
-        i += 8;
-    }
-    i
-}
-
-// The first free record from a place on, none where none is free.
-fn first_free(used: &[u16], from: usize) -> RecordNumber
-    requires { ⌜ (length (now used) ≤ 1024) × (from ≤ length (now used)) ⌝ }
-    ensures { λ a. ⌜ a ≡ freeFrom (now (used .entry)) from ⌝ }
-{
-    let mut i = full_before(used, from);
-    while i < used.len() {
-        if !is_on(used, i) {
-            return RecordNumber(i as u16 + 1);
-        }
-        i += 1;
+    let i = first_off(used, from);
+    if i < wide(n) {
+        return RecordNumber(i as u16 + 1);
     }
     RecordNumber(0)
 }
 
-// What a make takes, of any pool with these marks and this last made number: "the first free record above the last one made, else the lowest". No record is
-// looked at twice: where none above is free, the lowest is one of the others.
-fn chosen(used: &[u16], last: u16) -> RecordNumber
-    requires { ⌜ (length (now used) ≤ 1024) × (last ≤ length (now used)) ⌝ }
-    ensures { λ a. ⌜ ((p : Pool) → p .records .used ≡ marks (now (used .entry)) → p .last .0 ≡ last → a ≡ chosenIn p) ⌝ }
+// What a make takes, of any pool with these marks and this last made number: "the first free record above the last one made, else the lowest".
+fn chosen(used: &[u64], n: u16, last: u16) -> RecordNumber
+    requires { ⌜ (n ≤ 1024) × (length (now used) ≡ wordCount n) × (last ≤ n) ⌝ }
+    ensures { λ a. ⌜ ((p : Pool) → p .records .used ≡ marksIn n (now (used .entry)) → p .last .0 ≡ last → a ≡ chosenIn p) ⌝ }
 {
-    let to = wide(last);
-    let above = first_free(used, to);
+    let above = first_free(used, n, wide(last));
     if above.0 != 0 {
         return above;
     }
-    first_free(&used[..to], 0)
+    first_free(used, n, 0)
 }
 
 // "make w r: [the record that is chosen] becomes used, its maker is w + 1, register r holds it." "The pool remembers the last made number".
 pub fn makes(
     s: Sizes,
-    used: &mut [u16],
+    used: &mut [u64],
     makers: &mut [u16],
     registers: &mut [u16],
     w: u8,
@@ -155,7 +122,7 @@ pub fn makes(
         return Answer::Refused(wrong_number(worker, there));
     }
     let last = last_place(s);
-    let a = chosen(used, registers[last]);
+    let a = chosen(used, s.n, registers[last]);
     if a.0 == 0 {
         return Answer::Refused(Refusal::NoneFree);
     }
@@ -258,7 +225,7 @@ pub fn looks(s: Sizes, values: &[u16], registers: &mut [u16], w: u8, r: u8, e: u
 // soundness/proofs/NoFullLog.antt), and the mark has been read.
 fn logged(
     s: Sizes,
-    changed: &mut [u16],
+    changed: &mut [u64],
     logs: &mut [u16],
     lengths: &mut [u16],
     w: u8,
@@ -283,11 +250,11 @@ fn logged(
 }
 
 // "if w snoops and the value is not none, that record is marked held"
-fn snooped(held: &mut [u16], snoops: &[u16], w: u8, a: RecordNumber)
-    requires { ⌜ (w < length (now snoops)) × (a .0 ≤ length (now held)) ⌝ }
+fn snooped(held: &mut [u64], snoops: &[u16], w: u8, a: RecordNumber)
+    requires { ⌜ (w < length (now snoops)) × (a .0 ≤ length (now held) * 64) ⌝ }
     ensures { λ _. ⌜ now (held .exit) ≡ heldAfter w a (now (snoops .entry)) (now (held .entry)) ⌝ }
 {
-    if !is_on(snoops, w as usize) {
+    if !is_flagged(snoops, w as usize) {
         return;
     }
     if a.0 == 0 {
@@ -301,9 +268,9 @@ fn snooped(held: &mut [u16], snoops: &[u16], w: u8, a: RecordNumber)
 // A sound pool has room to log it.
 fn link_takes(
     s: Sizes,
-    held: &mut [u16],
+    held: &mut [u64],
     values: &mut [u16],
-    changed: &mut [u16],
+    changed: &mut [u64],
     registers: &[u16],
     snoops: &[u16],
     logs: &mut [u16],
@@ -331,9 +298,9 @@ fn link_takes(
 // "store w q f r": the link is link f of the record in q.
 pub fn stores(
     s: Sizes,
-    held: &mut [u16],
+    held: &mut [u64],
     values: &mut [u16],
-    changed: &mut [u16],
+    changed: &mut [u64],
     registers: &[u16],
     snoops: &[u16],
     logs: &mut [u16],
@@ -379,9 +346,9 @@ pub fn stores(
 // "16 post w e r .., with the answers and the barrier of .. store" (document 02, request 5)
 pub fn posts(
     s: Sizes,
-    held: &mut [u16],
+    held: &mut [u64],
     values: &mut [u16],
-    changed: &mut [u16],
+    changed: &mut [u64],
     registers: &[u16],
     snoops: &[u16],
     logs: &mut [u16],

@@ -1,10 +1,11 @@
-//! What a set of traces covered: how they ended, how their sizes fields say B, what their makes and the steps
-//! of phase 6 came upon, what was wrong at once with an event, what their cycles were, how they were handed
+//! What a set of traces covered: how they ended, how their sizes fields say B, which sizes at the ends of words
+//! they have, what their makes and the steps of phase 6 came upon, what was wrong at once with an event, what their cycles were, how they were handed
 //! over, and where in a field a read ended.
 
 use std::fmt;
 use std::str;
 
+use second::ends::{at_ends, AT_ENDS, OF_REPLAY};
 use second::event::{happen, Event};
 use second::pool::Pool;
 use second::replay::Ending;
@@ -54,6 +55,7 @@ pub struct Cover {
     refused: [u64; 15],
     answers: [u64; 15],
     sizes_fields: [u64; SIZES_FIELDS.len()],
+    at_ends: [u64; OF_REPLAY],
     makes: [u64; MAKES.len()],
     reclaims: [u64; RECLAIMS.len()],
     wrongs: [u64; WRONGS.len()],
@@ -117,6 +119,7 @@ impl Cover {
             match (field, &mut pool) {
                 (Field::Sizes { sizes, carries_b }, _) => {
                     add(&mut self.sizes_fields, &sizes_fields(sizes, carries_b).map(u64::from));
+                    add(&mut self.at_ends, &at_ends(sizes).map(u64::from));
                     pool = Some(Pool::fresh(sizes));
                 }
                 (Field::Event { event, .. }, Some(pool)) => {
@@ -148,6 +151,7 @@ impl Cover {
         add(&mut self.refused, &other.refused);
         add(&mut self.answers, &other.answers);
         add(&mut self.sizes_fields, &other.sizes_fields);
+        add(&mut self.at_ends, &other.at_ends);
         add(&mut self.makes, &other.makes);
         add(&mut self.reclaims, &other.reclaims);
         add(&mut self.wrongs, &other.wrongs);
@@ -182,6 +186,7 @@ impl Cover {
             ask(format!("an event answered {number}"), self.answers[number]);
         }
         let sizes_fields = SIZES_FIELDS.into_iter().zip(self.sizes_fields);
+        let sizes_fields = sizes_fields.chain(AT_ENDS.into_iter().zip(self.at_ends));
         let makes = MAKES.into_iter().zip(self.makes);
         let reclaims = RECLAIMS.into_iter().zip(self.reclaims);
         let wrongs = WRONGS.into_iter().zip(self.wrongs);
@@ -283,7 +288,8 @@ impl fmt::Display for Cover {
         writeln!(out, "how often each answer number was given:{}", numbered(&ANSWERS, &self.answers))?;
         writeln!(out, "how often a trace was refused with it:{}", numbered(&REFUSALS, &self.refused))?;
         writeln!(out, "how often a trace began with this:")?;
-        for (times, what) in self.sizes_fields.iter().zip(SIZES_FIELDS) {
+        let at_ends = self.at_ends.iter().zip(AT_ENDS);
+        for (times, what) in self.sizes_fields.iter().zip(SIZES_FIELDS).chain(at_ends) {
             writeln!(out, "{times:>10}  {what}")?;
         }
         writeln!(out, "how often a make came upon this:")?;

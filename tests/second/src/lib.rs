@@ -29,6 +29,7 @@
 //! - `leave`      how a worker leaves a record waiting, with a chain behind it
 //! - `maker`      a whole trace from a seed
 //! - `damage`     the ways in which a trace is damaged
+//! - `ends`       sizes at the ends of words of 64 marks
 //! - `many`       many seeds, made and checked in one process
 //!
 //! Beside the program `second` there is `bin/night`: how many records a night of long chains frees.
@@ -39,6 +40,7 @@ pub mod board;
 pub mod check;
 pub mod collector;
 pub mod damage;
+pub mod ends;
 pub mod event;
 pub mod habit;
 pub mod join;

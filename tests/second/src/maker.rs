@@ -1,6 +1,7 @@
 //! A trace from a seed: whole or damaged.
 
 use crate::damage::Damage;
+use crate::ends::at_the_end_of_a_word;
 use crate::event::{happen, Event};
 use crate::habit::Habit;
 use crate::pool::{Pool, Record, Sizes};
@@ -66,12 +67,13 @@ pub fn make_with_field_at(seed: u64, kind: Kind, offset: usize) -> Vec<u8> {
 }
 
 /// Mostly small, for then the same records meet again and again; some in between, some at the
-/// limits of `replay`.
+/// limits of `replay`, a few at the ends of words.
 fn choose_sizes(random: &mut Random) -> Sizes {
-    match random.below(20) {
-        0..=8 => up_to(Sizes { n: 4, k: 2, w: 2, r: 3, b: 2 }, random),
-        9..=15 => up_to(Sizes { n: 8, k: 3, w: 3, r: 4, b: 3 }, random),
-        16..=18 => up_to(Sizes { n: 24, k: 4, w: 4, r: 6, b: 6 }, random),
+    match random.below(40) {
+        0..=17 => up_to(Sizes { n: 4, k: 2, w: 2, r: 3, b: 2 }, random),
+        18..=30 => up_to(Sizes { n: 8, k: 3, w: 3, r: 4, b: 3 }, random),
+        31..=36 => up_to(Sizes { n: 24, k: 4, w: 4, r: 6, b: 6 }, random),
+        37 => at_the_end_of_a_word(LARGEST, random),
         _ => at_the_limits(LARGEST, 70, random),
     }
 }

@@ -1,8 +1,8 @@
 //! "A sound pool" of document 01, and what document 02 adds to it, clause by clause, by code of its
 //! own: nothing of the rules is used, so that a wrong rule is seen here.
 //!
-//! Held by the types: "marks and flags 0 or 1" are sets and `bool`s, "0 in every entry past a
-//! list's length" has no place in a vector.
+//! Held by the types: "marks and flags 0 or 1" are sets and `bool`s, which have no unused bits (document
+//! 02, request 9), and "0 in every entry past a list's length" has no place in a vector.
 
 use std::collections::{BTreeMap, BTreeSet};
 

@@ -7,6 +7,7 @@ use std::fmt;
 
 use crate::board::{self, Board};
 use crate::damage::Damage;
+use crate::ends::{at_ends, AT_ENDS, OF_REPLAY};
 use crate::event::{
     goes_through_none, makes_without_a_free_record, names_no_such_entry, names_no_such_link,
     names_no_such_register, names_no_such_worker, Answer, Event,
@@ -160,6 +161,7 @@ pub struct Tally {
     wrongs: [u64; WRONGS.len()],
     situations: [u64; SITUATIONS.len()],
     sizes_fields: [u64; SIZES_FIELDS.len()],
+    at_ends: [u64; OF_REPLAY],
     cycles: [u64; CYCLES.len()],
     left_open: [u64; LEFT_OPEN.len()],
     board: Board,
@@ -176,6 +178,9 @@ impl Tally {
         self.board.begin();
         self.waiting.begin();
         for (times, came) in self.sizes_fields.iter_mut().zip(sizes_fields(sizes, carries_b)) {
+            *times += u64::from(came);
+        }
+        for (times, came) in self.at_ends.iter_mut().zip(at_ends(sizes)) {
             *times += u64::from(came);
         }
     }
@@ -287,13 +292,14 @@ impl Tally {
         let wrongs = self.wrongs.iter().copied().zip(WRONGS);
         let situations = self.situations.iter().copied().zip(SITUATIONS);
         let sizes_fields = self.sizes_fields.iter().copied().zip(SIZES_FIELDS);
+        let at_ends = self.at_ends.iter().copied().zip(AT_ENDS);
         let cycles = self.cycles.iter().copied().zip(CYCLES);
         let left_open = self.left_open.iter().copied().zip(LEFT_OPEN);
         let board = self.board.situations.iter().copied().zip(board::SITUATIONS);
         let reclaims = self.reclaims.iter().copied().zip(RECLAIMS);
         let waiting = self.waiting.situations.iter().copied().zip(waiting::SITUATIONS);
         let of_events = makes.chain(wrongs).chain(situations).chain(board).chain(reclaims).chain(waiting);
-        of_events.chain(sizes_fields).chain(cycles).chain(left_open)
+        of_events.chain(sizes_fields).chain(at_ends).chain(cycles).chain(left_open)
     }
 
     /// What should have been reached and was not, and what was reached and cannot be.

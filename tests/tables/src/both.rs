@@ -5,6 +5,7 @@ use second::event::{happen, Event};
 use second::pool::{Pool, Record};
 use yuyarisun::{Answer, Lent, Refusal, Tables};
 
+use crate::ends;
 use crate::lie::{each, sizes_of, written, TABLES};
 use crate::reached::{Reached, Upon};
 
@@ -55,9 +56,9 @@ pub fn same(who: &str, expected: &Lent, found: (&Tables, yuyarisun::Collector)) 
     }
     let (mut should, mut is) = (expected.tables.clone(), found.0.clone());
     for (name, (should, is)) in TABLES.into_iter().zip(each(&mut should).into_iter().zip(each(&mut is))) {
-        let differs = |at: &usize| should.get(*at) != is.get(*at);
+        let differs = |at: &usize| should.at(*at) != is.at(*at);
         if let Some(at) = (0..should.len().max(is.len())).find(differs) {
-            let (should, is) = (should.get(at), is.get(at));
+            let (should, is) = (should.at(at), is.at(at));
             return Err(format!("{who}: {name} at {at} is {is:?} and should be {should:?}"));
         }
     }
@@ -70,6 +71,10 @@ impl Both {
         let mut lent = written(&second);
         for (i, number) in lent.tables.values.iter_mut().chain(&mut lent.tables.logs).enumerate() {
             *number = i as u16;
+        }
+        let t = &mut lent.tables;
+        for words in [&mut t.used, &mut t.held, &mut t.candidates, &mut t.changed] {
+            words.fill(u64::MAX);
         }
         lent.collector.phase = 9;
         lent.fresh().map_err(|refusal| format!("fresh is refused: {refusal}"))?;
@@ -97,22 +102,25 @@ impl Both {
     pub fn event(&mut self, event: Event, reached: &mut Reached) -> Result<(), String> {
         let told = |sentence| format!("{event:?}: {sentence}");
         let (upon, closed) = (Upon::of(&self.second, event), self.second.closed);
-        let expected = happen(&mut self.second, event);
-        let (number, value) = (expected.number, expected.value);
-        let expected = answer_of(expected);
+        let at_ends = ends::Upon::of(&self.second);
+        let answer = happen(&mut self.second, event);
+        let expected = answer_of(answer);
         let checked = self.lent.event(event_of(event));
         hold(checked == expected, || {
             told(format!("checked call: answered {checked:?} and not {expected:?}"))
         })?;
         let inner = self.pool.event(event_of(event));
         hold(inner == expected, || told(format!("inner event: answered {inner:?} and not {expected:?}")))?;
-        self.same(&written(&self.second)).map_err(told)?;
+        let after = written(&self.second);
+        self.same(&after).map_err(told)?;
         let free = [self.lent.free_records(), self.pool.free_records()];
         hold(free == [self.second.free_records(); 2], || told(format!("free records: {free:?}")))?;
-        reached.event(event, upon, number);
+        reached.event(event, upon, answer.number);
+        at_ends.came(event, answer, &self.second).for_each(|words| reached.situation(words));
+        ends::last_words(&after).iter().for_each(|words| reached.situation(words));
         let s = self.second.sizes.s();
         let situations = [
-            (event == Event::Collect && value.is_some(), FREED),
+            (event == Event::Collect && answer.value.is_some(), FREED),
             (closed == u16::MAX && self.second.closed == 0, GOES_ON_AT_0),
             (self.second.workers.iter().any(|worker| worker.log.len() == s), FULL_LOG),
             (self.second.history.len() == s, FULL_HISTORY),

@@ -1,13 +1,17 @@
 //! How a pool of the second program lies in the tables that the library is lent, written from
 //! "Lending tables" of the README, and what tables of the right lengths mean, whatever stands in
-//! them.
+//! them. Marks are written out one number for each, and then packed.
 
 use second::pool::{Entry, Link, Pool, Record, Sizes};
+use second::random::Random;
 use second::sound::{self, LIST_LENGTHS};
 use yuyarisun::{Collector, Lent, Tables};
 
-/// Two clauses of "A sound pool" that the second program holds by its types.
-pub const MARKS: &str = "marks and flags 0 or 1";
+use crate::words::{packed, unpacked, unused_are_0};
+
+/// Three clauses of "A sound pool" that the second program holds by its types.
+pub const FLAGS: &str = "marks and flags 0 or 1";
+pub const UNUSED: &str = "unused bits at 0";
 pub const ZEROS: &str = "0 in every entry past a list's length";
 
 pub const TABLES: [&str; 12] = [
@@ -25,22 +29,72 @@ pub const TABLES: [&str; 12] = [
     "lengths",
 ];
 
+/// A table of either kind.
+pub enum Table<'a> {
+    Marks(&'a mut Vec<u64>),
+    Numbers(&'a mut Vec<u16>),
+}
+
+impl Table<'_> {
+    pub fn len(&self) -> usize {
+        match self {
+            Table::Marks(words) => words.len(),
+            Table::Numbers(numbers) => numbers.len(),
+        }
+    }
+
+    /// The word or the number at a place.
+    pub fn at(&self, place: usize) -> Option<u64> {
+        match self {
+            Table::Marks(words) => words.get(place).copied(),
+            Table::Numbers(numbers) => numbers.get(place).copied().map(u64::from),
+        }
+    }
+
+    /// What there is more of it is 0.
+    pub fn resize(&mut self, length: usize) {
+        match self {
+            Table::Marks(words) => words.resize(length, 0),
+            Table::Numbers(numbers) => numbers.resize(length, 0),
+        }
+    }
+
+    /// Anything in every place.
+    pub fn spoil(&mut self, random: &mut Random) {
+        match self {
+            Table::Marks(words) => words.fill_with(|| random.number()),
+            Table::Numbers(numbers) => numbers.fill_with(|| random.number() as u16),
+        }
+    }
+}
+
 /// The tables, in the order of `TABLES`.
-pub fn each(t: &mut Tables) -> [&mut Vec<u16>; 12] {
+pub fn each(t: &mut Tables) -> [Table<'_>; 12] {
     [
-        &mut t.used,
-        &mut t.counts,
-        &mut t.held,
-        &mut t.candidates,
-        &mut t.makers,
-        &mut t.values,
-        &mut t.changed,
-        &mut t.registers,
-        &mut t.snoops,
-        &mut t.logs,
-        &mut t.history,
-        &mut t.lengths,
+        Table::Marks(&mut t.used),
+        Table::Numbers(&mut t.counts),
+        Table::Marks(&mut t.held),
+        Table::Marks(&mut t.candidates),
+        Table::Numbers(&mut t.makers),
+        Table::Numbers(&mut t.values),
+        Table::Marks(&mut t.changed),
+        Table::Numbers(&mut t.registers),
+        Table::Numbers(&mut t.snoops),
+        Table::Numbers(&mut t.logs),
+        Table::Numbers(&mut t.history),
+        Table::Numbers(&mut t.lengths),
     ]
+}
+
+/// One of them, by its place in `TABLES`.
+pub fn nth(t: &mut Tables, which: usize) -> Table<'_> {
+    each(t).into_iter().nth(which).expect("there are twelve tables")
+}
+
+/// The tables of marks: the name of each, its words, and how many marks they hold.
+pub fn mark_tables(lent: &Lent) -> [(&'static str, &[u64], usize); 4] {
+    let (t, n, s) = (&lent.tables, usize::from(lent.sizes.n), lent.sizes.links());
+    [("used", &t.used, n), ("held", &t.held, n), ("candidates", &t.candidates, n), ("changed", &t.changed, s)]
 }
 
 pub fn sizes_of(sizes: Sizes) -> yuyarisun::Sizes {
@@ -88,12 +142,16 @@ pub fn written(pool: &Pool) -> Lent {
     for (table, set) in
         [(&mut t.used, &pool.used), (&mut t.held, &pool.held), (&mut t.candidates, &pool.candidates)]
     {
-        set.iter().for_each(|record| table[place(*record)] = 1);
+        let mut marks = vec![0; sizes.n.into()];
+        set.iter().for_each(|record| marks[place(*record)] = 1);
+        *table = packed(&marks);
     }
     pool.counts.iter().for_each(|(record, count)| t.counts[place(*record)] = *count as u16);
     pool.makers.iter().for_each(|(record, worker)| t.makers[place(*record)] = *worker as u16 + 1);
     pool.values.iter().for_each(|(link, value)| t.values[usize::from(link_number(sizes, *link))] = value.0);
-    pool.changed.iter().for_each(|link| t.changed[usize::from(link_number(sizes, *link))] = 1);
+    let mut changed = vec![0; sizes.s()];
+    pool.changed.iter().for_each(|link| changed[usize::from(link_number(sizes, *link))] = 1);
+    t.changed = packed(&changed);
     let (s, r) = (sizes.s(), usize::from(sizes.r));
     for (w, worker) in pool.workers.iter().enumerate() {
         for (i, held) in worker.registers.iter().enumerate() {
@@ -111,15 +169,15 @@ pub fn written(pool: &Pool) -> Lent {
     Lent { sizes: sizes_of(sizes), tables: t, collector }
 }
 
-/// What tables of the right lengths mean. A mark above 1 reads as on, a list is at most as long as
-/// its room.
+/// What tables of the right lengths mean. A flag above 1 reads as on, unused bits are of no mark, a list is
+/// at most as long as its room.
 pub fn read(lent: &Lent) -> Pool {
     let sizes = sizes_in(lent);
     let t = &lent.tables;
     let records = |table: &[u16]| -> Vec<(Record, u16)> {
         sizes.records().zip(table.iter().copied()).filter(|(_, number)| *number != 0).collect()
     };
-    let marked = |table: &[u16]| records(table).into_iter().map(|(record, _)| record).collect();
+    let marked = |words: &[u64]| records(&unpacked(words)).into_iter().map(|(record, _)| record).collect();
     let links: Vec<Link> = sizes.links().collect();
     let of_links = |table: &[u16]| -> Vec<(Link, u16)> {
         links.iter().copied().zip(table.iter().copied()).filter(|(_, number)| *number != 0).collect()
@@ -132,7 +190,7 @@ pub fn read(lent: &Lent) -> Pool {
     pool.makers =
         records(&t.makers).into_iter().map(|(record, maker)| (record, usize::from(maker) - 1)).collect();
     pool.values = of_links(&t.values).into_iter().map(|(link, value)| (link, Record(value))).collect();
-    pool.changed = of_links(&t.changed).into_iter().map(|(link, _)| link).collect();
+    pool.changed = of_links(&unpacked(&t.changed)).into_iter().map(|(link, _)| link).collect();
     let (s, r) = (sizes.s(), usize::from(sizes.r));
     for (w, worker) in pool.workers.iter_mut().enumerate() {
         worker.registers = t.registers[w * r..(w + 1) * r].iter().map(|number| record_of(*number)).collect();
@@ -168,14 +226,13 @@ pub fn link_of(sizes: Sizes, number: u16) -> Link {
 pub fn broken(lent: &Lent) -> Vec<&'static str> {
     let t = &lent.tables;
     let s = lent.sizes.links();
-    let is_mark = |number: &u16| *number <= 1;
-    let marks = [&t.used, &t.held, &t.candidates, &t.changed, &t.snoops];
     let lists = t.logs.chunks_exact(2 * s).chain([&t.history[..]]);
     let past = |(room, length): (&[u16], &u16)| {
         room.iter().skip(2 * usize::from(*length)).all(|number| *number == 0)
     };
     let clauses = [
-        (marks.into_iter().flatten().all(is_mark), MARKS),
+        (t.snoops.iter().all(|flag| *flag <= 1), FLAGS),
+        (mark_tables(lent).into_iter().all(|(_, words, marks)| unused_are_0(words, marks)), UNUSED),
         (lists.zip(&t.lengths).all(past), ZEROS),
         (t.lengths.iter().all(|length| usize::from(*length) <= s), LIST_LENGTHS),
     ];

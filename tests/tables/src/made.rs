@@ -10,6 +10,7 @@ use second::reach::two_workers_share;
 use second::sound::{self, counted_for};
 
 use crate::both::Both;
+use crate::ends;
 use crate::lie::{link_number, link_of, read, written};
 use crate::reached::{Reached, KINDS};
 use crate::runs::{any_event, choose_sizes, COLLECT};
@@ -119,23 +120,43 @@ impl Draft {
         pool.phase = self.phase;
         pool.position = self.position;
         pool.closed = random.pick(&[0, 1, 65_534, 65_535, 4711]);
-        if pool.phase == 6 && random.percent(50) {
-            some_are_due(&mut pool, random);
+        let ends = ends::records(sizes);
+        if !ends.is_empty() && random.percent(40) {
+            only_ends_are_free_or_due(&mut pool, ends, random);
+        } else if pool.phase == 6 && random.percent(50) {
+            let some = random.pick(&[5, 30, 100]);
+            let due: Vec<Record> = sizes.records().filter(|_| random.percent(some)).collect();
+            are_due(&mut pool, &due, random);
         }
         count_anew(&mut pool);
         pool
     }
 }
 
-/// Some records are used candidates, not held, which no link is counted for; an unchanged link of each
-/// holds a record. So those that have a changed link wait with a child, and the others can be freed.
-fn some_are_due(pool: &mut Pool, random: &mut Random) {
+/// Records at the ends of words, of which some are all that is free, or all that is due in phase 6: a
+/// search goes over whole words before it finds one.
+fn only_ends_are_free_or_due(pool: &mut Pool, ends: Vec<Record>, random: &mut Random) {
+    let some = random.pick(&[10, 40, 100]);
+    let mut few: Vec<Record> = ends.iter().copied().filter(|_| random.percent(some)).collect();
+    few.push(random.pick(&ends));
+    pool.used = pool.sizes.records().collect();
+    if pool.phase == 6 {
+        pool.candidates.clear();
+        are_due(pool, &few, random);
+    } else {
+        pool.used.retain(|record| !few.contains(record));
+    }
+}
+
+/// These records are used candidates, not held, which no link is counted for; an unchanged link of each
+/// holds a record. So those that have a changed link wait with a child, and the others can be freed. One
+/// without an unchanged link stays as it was.
+fn are_due(pool: &mut Pool, due: &[Record], random: &mut Random) {
     let sizes = pool.sizes;
-    let some = random.pick(&[5, 30, 100]);
-    for record in sizes.records() {
+    for record in due.iter().copied() {
         let unchanged: Vec<Link> =
             sizes.links_of(record).filter(|link| !pool.changed.contains(link)).collect();
-        if unchanged.is_empty() || !random.percent(some) {
+        if unchanged.is_empty() {
             continue;
         }
         pool.used.insert(record);

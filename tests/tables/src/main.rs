@@ -5,6 +5,8 @@
 //!     tables PART SEED        one case of one part alone
 //!
 //! - `lie`      how a pool lies in the tables, both ways
+//! - `words`    marks packed into words, and taken out of them
+//! - `ends`     what comes at the ends of words
 //! - `both`     one event on the second program, by a checked call and by the inner event
 //! - `room`     the slice that a caller lends for the answers of many events
 //! - `reached`  what was reached
@@ -21,6 +23,7 @@
 #![forbid(unsafe_code)]
 
 mod both;
+mod ends;
 mod lie;
 mod made;
 mod many;
@@ -30,6 +33,7 @@ mod runs;
 mod touched;
 mod traces;
 mod ways;
+mod words;
 mod wrong;
 
 use std::time::Instant;
@@ -50,8 +54,8 @@ struct Part {
     situations: fn() -> Vec<String>,
 }
 
-fn words(list: &[&str]) -> Vec<String> {
-    list.iter().map(|words| (*words).into()).collect()
+fn and(list: &[&str], others: Vec<String>) -> Vec<String> {
+    list.iter().map(|words| (*words).into()).chain(others).collect()
 }
 
 const PARTS: [Part; 7] = [
@@ -61,7 +65,7 @@ const PARTS: [Part; 7] = [
         cases: 1000,
         run: run_or_full,
         every_event: true,
-        situations: || words(&[FREED, FULL_LOG, FULL_HISTORY, AT_THE_LARGEST]),
+        situations: || and(&[FREED, FULL_LOG, FULL_HISTORY, AT_THE_LARGEST], ends::sizes()),
     },
     Part {
         name: "made",
@@ -69,7 +73,10 @@ const PARTS: [Part; 7] = [
         cases: 4000,
         run: made::run,
         every_event: true,
-        situations: || words(&[FREED, GOES_ON_AT_0, FULL_LOG, FULL_HISTORY, made::SHARED, AT_THE_LARGEST]),
+        situations: || {
+            let others = [FREED, GOES_ON_AT_0, FULL_LOG, FULL_HISTORY, made::SHARED, AT_THE_LARGEST];
+            and(&others, ends::all_words())
+        },
     },
     Part {
         name: "ways",
@@ -85,7 +92,7 @@ const PARTS: [Part; 7] = [
         cases: 10_000,
         run: touched::run,
         every_event: false,
-        situations: || words(&[touched::STILL_SOUND, touched::NOT_SOUND, AT_THE_LARGEST]),
+        situations: || and(&[touched::STILL_SOUND, touched::NOT_SOUND, AT_THE_LARGEST], ends::sizes()),
     },
     Part {
         name: "wrong",

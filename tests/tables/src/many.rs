@@ -9,6 +9,7 @@ use second::trace::{Field, Kind, Reader, Refusal};
 use yuyarisun::{Lent, Stop};
 
 use crate::both::{answer_of, event_of, hold, same};
+use crate::ends;
 use crate::lie::{sizes_in, sizes_of, written};
 use crate::made::Draft;
 use crate::reached::{Reached, Upon, AT_THE_LARGEST};
@@ -28,7 +29,7 @@ pub fn all_words() -> Vec<String> {
         LAST_STEP,
         AT_THE_LARGEST,
     ]);
-    numbers.into_iter().chain(harms.map(String::from)).collect()
+    numbers.into_iter().chain(harms.map(String::from)).chain(ends::sizes()).collect()
 }
 
 fn answered(number: u8) -> String {

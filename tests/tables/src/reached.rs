@@ -2,6 +2,7 @@
 
 use std::collections::BTreeMap;
 
+use second::ends::{at_ends, AT_ENDS};
 use second::event::Event;
 use second::pool::{Pool, Sizes};
 use second::tally::{makes, wrongs, MAKES, WRONGS};
@@ -78,6 +79,8 @@ impl Reached {
         if sizes == LARGEST {
             self.situation(AT_THE_LARGEST);
         }
+        let ends = AT_ENDS.into_iter().zip(at_ends(sizes));
+        ends.filter(|(_, came)| *came).for_each(|(words, _)| self.situation(words));
     }
 
     /// How many events were compared, those that every table refuses among them.

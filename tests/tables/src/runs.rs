@@ -1,5 +1,6 @@
 //! Runs from a fresh pool, up to the largest sizes of document 01.
 
+use second::ends::at_the_end_of_a_word;
 use second::event::Event;
 use second::maker::{at_the_limits, stretch, up_to};
 use second::pool::Sizes;
@@ -12,13 +13,14 @@ use crate::reached::{Reached, KINDS};
 /// Which of the kinds of events is the collector's; the workers' are those before it.
 pub const COLLECT: usize = KINDS.len() - 1;
 
-/// Mostly small, for then the same records meet again and again; some in between, a few at the
-/// limits.
+/// Mostly small, for then the same records meet again and again; some in between, some at the ends of
+/// words, a few at the limits.
 pub fn choose_sizes(random: &mut Random) -> Sizes {
     match random.below(100) {
-        0..=59 => up_to(Sizes { n: 4, k: 3, w: 3, r: 3, b: 3 }, random),
-        60..=89 => up_to(Sizes { n: 16, k: 8, w: 8, r: 16, b: 16 }, random),
-        90..=97 => up_to(Sizes { n: 160, k: 4, w: 4, r: 8, b: 8 }, random),
+        0..=53 => up_to(Sizes { n: 4, k: 3, w: 3, r: 3, b: 3 }, random),
+        54..=79 => up_to(Sizes { n: 16, k: 8, w: 8, r: 16, b: 16 }, random),
+        80..=92 => at_the_end_of_a_word(LARGEST, random),
+        93..=97 => up_to(Sizes { n: 160, k: 4, w: 4, r: 8, b: 8 }, random),
         _ => at_the_limits(LARGEST, 75, random),
     }
 }

@@ -14,7 +14,8 @@ use second::trace::{in_range, replay_takes, well_formed, Field, Reader, Refusal}
 use yuyarisun::{Lent, Replay, Report, Reported, Stop, Whole};
 
 use crate::both::{answer_of, hold, same};
-use crate::lie::{each, sizes_in, sizes_of, written};
+use crate::ends;
+use crate::lie::{each, nth, sizes_in, sizes_of, written};
 use crate::many::{one, stop_of};
 use crate::reached::{Reached, AT_THE_LARGEST};
 use crate::room;
@@ -32,7 +33,7 @@ pub fn all_words() -> Vec<String> {
     let others = [OTHER_SIZES, OTHER_SPLIT, OTHER_LENGTH, PRINTED, AT_THE_LARGEST];
     let rooms = room::WORDS.into_iter().chain(room::CYCLE_WORDS);
     let others = rooms.chain(others).chain(SIZES_FIELDS).chain(CYCLES);
-    NUMBERS.map(answered).into_iter().chain(others.map(String::from)).collect()
+    NUMBERS.map(answered).into_iter().chain(others.map(String::from)).chain(ends::sizes()).collect()
 }
 
 fn answered(number: u8) -> String {
@@ -112,9 +113,7 @@ fn made(seed: u64, random: &mut Random) -> Made {
 /// Tables with anything in them, and a collector's record that may be nonsense.
 fn spoilt(sizes: Sizes, random: &mut Random) -> Lent {
     let mut lent = written(&Pool::fresh(sizes));
-    for number in each(&mut lent.tables).into_iter().flatten() {
-        *number = random.number() as u16;
-    }
+    each(&mut lent.tables).into_iter().for_each(|mut table| table.spoil(random));
     let collector = &mut lent.collector;
     for number in [&mut collector.phase, &mut collector.position, &mut collector.closed] {
         *number = random.number() as u16;
@@ -135,9 +134,8 @@ pub fn run(seed: u64, reached: &mut Reached) -> Result<(), String> {
     let mut lent = spoilt(sizes, &mut random);
     let exact = random.percent(97);
     if !exact {
-        let which = random.below(12);
-        let table = each(&mut lent.tables).into_iter().nth(which).expect("there are twelve tables");
-        table.resize(table.len() + 1 - 2 * random.below(2), 0);
+        let mut table = nth(&mut lent.tables, random.below(12));
+        table.resize(table.len() + 1 - 2 * random.below(2));
     }
     // These are not looked at.
     if random.percent(10) {

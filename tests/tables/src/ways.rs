@@ -7,11 +7,15 @@ use second::sound::*;
 use yuyarisun::{Lent, Pool as Owned, Refusal};
 
 use crate::both::{event_of, hold, same};
-use crate::lie::{broken, last_made_place, sizes_in, written, MARKS, ZEROS};
+use crate::ends;
+use crate::lie::{
+    broken, last_made_place, mark_tables, nth, sizes_in, written, Table, FLAGS, TABLES, UNUSED, ZEROS,
+};
 use crate::made::{any_link, any_record, count_anew, uncleared, Draft};
 use crate::many;
 use crate::reached::{kind, Reached, AT_THE_LARGEST, KINDS};
 use crate::runs::{any_event, choose_sizes};
+use crate::words::{packed, unpacked};
 
 /// How a clause is broken, and how to make such a pool; `None` if what was thrown does not lend
 /// itself to it.
@@ -31,11 +35,11 @@ const fn way(
 
 #[rustfmt::skip]
 pub const WAYS: &[Way] = &[
-    way(&[MARKS], "a used mark above 1", |random| spoilt_mark(random, |lent| &mut lent.tables.used)),
-    way(&[MARKS], "a held mark above 1", |random| spoilt_mark(random, |lent| &mut lent.tables.held)),
-    way(&[MARKS], "a candidate mark above 1", |random| spoilt_mark(random, |lent| &mut lent.tables.candidates)),
-    way(&[MARKS], "a snoop flag above 1", |random| spoilt_mark(random, |lent| &mut lent.tables.snoops)),
-    way(&[MARKS], "a changed mark above 1", |random| spoilt_mark(random, |lent| &mut lent.tables.changed)),
+    way(&[FLAGS], "a snoop flag above 1", flag_above_1),
+    way(&[UNUSED], "an unused bit of the used marks on", |random| unused_on("used", random)),
+    way(&[UNUSED], "an unused bit of the held marks on", |random| unused_on("held", random)),
+    way(&[UNUSED], "an unused bit of the candidate marks on", |random| unused_on("candidates", random)),
+    way(&[UNUSED], "an unused bit of the changed marks on", |random| unused_on("changed", random)),
     way(&[PHASE_AND_POSITION], "a phase above 6", phase_above_6),
     way(&[PHASE_AND_POSITION], "a position of W or more in phases 1, 2, 4", position_past_the_workers),
     way(&[PHASE_AND_POSITION], "a position past the history in phase 3", |random| position_past_the_history(3, random)),
@@ -77,8 +81,26 @@ fn alone(clause: &str) -> String {
 
 /// Every way, and every clause alone.
 pub fn all_words() -> Vec<String> {
-    let clauses = CLAUSES.into_iter().chain([MARKS, ZEROS]).map(alone);
-    WAYS.iter().map(|way| way.words.into()).chain(clauses).chain([AT_THE_LARGEST.into()]).collect()
+    let clauses = CLAUSES.into_iter().chain([FLAGS, UNUSED, ZEROS]).map(alone);
+    let others = UNUSED_ON.into_iter().chain([AT_THE_LARGEST]).map(String::from);
+    WAYS.iter().map(|way| way.words.into()).chain(clauses).chain(others).chain(ends::sizes()).collect()
+}
+
+/// Which unused bits of a word are on.
+const UNUSED_ON: [&str; 3] =
+    ["the lowest unused bit alone on", "the highest bit alone on of several unused", "every unused bit on"];
+
+/// Which of these hold, of one table or another.
+fn unused_bits(lent: &Lent) -> [bool; UNUSED_ON.len()] {
+    let mut came = [false; UNUSED_ON.len()];
+    for (_, words, marks) in mark_tables(lent) {
+        let unused = unpacked(words).split_off(marks);
+        let on = unused.iter().filter(|bit| **bit == 1).count();
+        came[0] |= on == 1 && unused.first() == Some(&1);
+        came[1] |= on == 1 && unused.len() > 1 && unused.last() == Some(&1);
+        came[2] |= on > 1 && on == unused.len();
+    }
+    came
 }
 
 /// One pool for the way that the seed stands for, and each kind of event on it.
@@ -93,6 +115,8 @@ pub fn run(seed: u64, reached: &mut Reached) -> Result<(), String> {
     if let [clause] = way.clauses {
         reached.situation(&alone(clause));
     }
+    let unused = UNUSED_ON.into_iter().zip(unused_bits(&lent)).filter(|(_, came)| *came);
+    unused.for_each(|(words, _)| reached.situation(words));
     reached.sizes(sizes_in(&lent));
     Ok(())
 }
@@ -144,12 +168,30 @@ fn above(limit: u16, random: &mut Random) -> u16 {
     }
 }
 
-fn spoilt_mark(random: &mut Random, table: fn(&mut Lent) -> &mut Vec<u16>) -> Option<Lent> {
+fn flag_above_1(random: &mut Random) -> Option<Lent> {
     let mut lent = written(&sound_pool(random));
-    let mark = above(1, random);
-    let table = table(&mut lent);
-    let at = random.below(table.len());
-    table[at] = mark;
+    let at = random.below(lent.tables.snoops.len());
+    lent.tables.snoops[at] = above(1, random);
+    Some(lent)
+}
+
+/// The marks of a table stay as they are; of the bits behind them one is on, or all are.
+fn unused_on(table: &str, random: &mut Random) -> Option<Lent> {
+    let mut lent = written(&sound_pool(random));
+    let (_, words, marks) = mark_tables(&lent).into_iter().find(|(name, ..)| *name == table)?;
+    let mut bits = unpacked(words);
+    let unused = &mut bits[marks..];
+    let last = unused.len().checked_sub(1)?;
+    match random.below(4) {
+        0 => unused[0] = 1,
+        1 => unused[last] = 1,
+        2 => unused.fill(1),
+        _ => unused[random.below(last)] = 1,
+    }
+    let which = TABLES.iter().position(|name| *name == table)?;
+    if let Table::Marks(words) = nth(&mut lent.tables, which) {
+        *words = packed(&bits);
+    }
     Some(lent)
 }
 

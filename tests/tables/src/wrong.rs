@@ -5,14 +5,23 @@ use second::random::Random;
 use yuyarisun::{Lent, Refusal, Tables};
 
 use crate::both::{hold, same};
-use crate::lie::{each, written, TABLES};
+use crate::lie::{nth, written, TABLES};
 use crate::made::Draft;
 use crate::reached::Reached;
 use crate::runs::{choose_sizes, LARGEST};
 use crate::traces;
 use crate::ways::refused;
+use crate::words::{unpacked, unused_are_0, WIDTH};
 
 const SIZES: [&str; 5] = ["N", "K", "W", "R", "B"];
+
+/// What the free records are counted from.
+const FREE: [&str; 4] = [
+    "free records: more ones than N",
+    "free records: too few words",
+    "free records: too many words",
+    "free records: an unused bit on",
+];
 
 pub fn all_words() -> Vec<String> {
     let lengths =
@@ -21,7 +30,7 @@ pub fn all_words() -> Vec<String> {
         .iter()
         .flat_map(|size| ["0", "one too large", "far too large"].map(|how| format!("{size} is {how}")))
         .filter(|words| words != "B is 0");
-    lengths.chain(sizes).collect()
+    lengths.chain(sizes).chain(FREE.map(String::from)).collect()
 }
 
 /// A sound pool, at times with a number spoilt: 1 is answered before 2.
@@ -37,7 +46,7 @@ fn some_pool(random: &mut Random) -> Lent {
 fn wrong_length(random: &mut Random) -> (Lent, String) {
     let mut lent = some_pool(random);
     let which = random.below(TABLES.len());
-    let table = each(&mut lent.tables).into_iter().nth(which).expect("there are twelve tables");
+    let mut table = nth(&mut lent.tables, which);
     let length = table.len();
     let short = random.percent(50);
     let wrong = match (short, random.below(4)) {
@@ -48,7 +57,7 @@ fn wrong_length(random: &mut Random) -> (Lent, String) {
         (false, 1) => length + 65_536,
         (false, _) => length + 1,
     };
-    table.resize(wrong, 0);
+    table.resize(wrong);
     (lent, format!("{} {}", TABLES[which], if short { "too short" } else { "too long" }))
 }
 
@@ -75,7 +84,7 @@ fn wrong_size(random: &mut Random) -> (Lent, String) {
             let mut tables = Tables::zeros(yuyarisun::Sizes { n: sizes.n, k: 0, w: sizes.w, r: 0, b: 0 });
             let s = (wrapped(sizes.n, sizes.k) + usize::from(sizes.b)) % 65_536;
             tables.values.resize(s, 0);
-            tables.changed.resize(s, 0);
+            tables.changed.resize(s.div_ceil(WIDTH), 0);
             tables.history.resize(2 * s % 65_536, 0);
             tables.logs.resize(wrapped(sizes.w, (2 * s) as u16), 0);
             tables.registers.resize((wrapped(sizes.w, sizes.r) + 1) % 65_536, 0);
@@ -102,12 +111,27 @@ pub fn run(seed: u64, reached: &mut Reached) -> Result<(), String> {
     hold(answer == Err(Refusal::WrongSize), || told(format!("fresh: answered {answer:?}")))?;
     same("fresh", &before, (&lent.tables, lent.collector)).map_err(told)?;
     traces::refused(&mut lent).map_err(told)?;
-    let marks = &before.tables.used;
-    let free = marks.iter().filter(|mark| **mark == 0).count();
-    hold(lent.free_records() == free, || {
-        told(format!("free records: {} and not {free}", lent.free_records()))
-    })?;
+    free_records(&lent, reached).map_err(told)?;
+    lent.sizes.n = random.pick(&[0, 1, 63, 64, 65, 1024, u16::MAX]);
+    lent.tables.used = (0..random.below(5)).map(|_| random.pick(&[0, 1, 1 << 63, u64::MAX, 4711])).collect();
+    free_records(&lent, reached)?;
     reached.situation(&words);
+    Ok(())
+}
+
+/// N less the ones, whatever words these are, and 0 where there are more of them.
+fn free_records(lent: &Lent, reached: &mut Reached) -> Result<(), String> {
+    let (words, n) = (&lent.tables.used, usize::from(lent.sizes.n));
+    let on: usize = unpacked(words).into_iter().map(usize::from).sum();
+    let (free, found) = (n.saturating_sub(on), lent.free_records());
+    hold(found == free, || format!("free records: {found} and not {free}, of {n} in {words:x?}"))?;
+    let situations = [
+        (on > n, FREE[0]),
+        (words.len() < n.div_ceil(WIDTH), FREE[1]),
+        (words.len() > n.div_ceil(WIDTH), FREE[2]),
+        (words.len() == n.div_ceil(WIDTH) && !unused_are_0(words, n), FREE[3]),
+    ];
+    situations.into_iter().filter(|(came, _)| *came).for_each(|(_, words)| reached.situation(words));
     Ok(())
 }
 

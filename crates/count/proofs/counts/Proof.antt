@@ -76,7 +76,7 @@ falls-requires : tie.Need-falls-requires
 falls-requires c κs = let r = ready-at (c .before .before .before .before) in (r .old, r .candidates, r .counted)
 
 view-value-requires : tie.Need-view-value-requires
-view-value-requires c κs = let r = ready-at (asked c) in (r .value, r .mark, r .one)
+view-value-requires c κs = let r = ready-at (asked c) in (r .link, r .value, r .mark, r .one)
 
 -- the view value of the entry's link, in any pool that has these tables
 seen : (c : tie.After-view-value) (t : Tables) (x : Collector) → let at = asked (c .before) in

@@ -65,14 +65,26 @@ returns : tie.Need-returns
 unfolding madeFresh
 returns c = rw (sym (c .before .has-shape .ensures) ∙ not-true _ (c .if1 .taken)) refl
 
+clear-marks-requires : tie.Need-clear-marks-requires
+clear-marks-requires c κs = search needs
+
 clear-requires : tie.Need-clear-requires
 clear-requires c κs = search needs
+
+clear-marks-requires-2 : tie.Need-clear-marks-requires-2
+clear-marks-requires-2 c κs = search needs
+
+clear-marks-requires-3 : tie.Need-clear-marks-requires-3
+clear-marks-requires-3 c κs = search needs
 
 clear-requires-2 : tie.Need-clear-requires-2
 clear-requires-2 c κs = search needs
 
 clear-requires-3 : tie.Need-clear-requires-3
 clear-requires-3 c κs = search needs
+
+clear-marks-requires-4 : tie.Need-clear-marks-requires-4
+clear-marks-requires-4 c κs = search needs
 
 clear-requires-4 : tie.Need-clear-requires-4
 clear-requires-4 c κs = search needs
@@ -88,18 +100,6 @@ clear-requires-7 c κs = search needs
 
 clear-requires-8 : tie.Need-clear-requires-8
 clear-requires-8 c κs = search needs
-
-clear-requires-9 : tie.Need-clear-requires-9
-clear-requires-9 c κs = search needs
-
-clear-requires-10 : tie.Need-clear-requires-10
-clear-requires-10 c κs = search needs
-
-clear-requires-11 : tie.Need-clear-requires-11
-clear-requires-11 c κs = search needs
-
-clear-requires-12 : tie.Need-clear-requires-12
-clear-requires-12 c κs = search needs
 
 same-length-13 : tie.Need-same-length-13
 same-length-13 c = c .before .before .before .before .before .before .before .before .before .before .before .before .before .before .before .before .before .before .before .before .before .before .before .before .before .before .before .before .before .before .before .before .before .before .before .before .before .before .before .before .before .before .before .before .before .used .given
@@ -152,18 +152,18 @@ returns-2 c =
       collector = record { phase = 0; position = 0; closed = 0 };
       tables =
           record {
-            used = (cleared (at .used .now) (c .before .before .before .before .before .before .before .before .before .before .before .before .before .before .before .before .before .before .before .before .before .before .before .before .before .before .before .before .before .before .before .before .before .before .before .before .before .before .before .before .before .before .before .before .before .before .clear .ensures) (exact .used)) j;
-            counts = (cleared (at .counts .now) (c .before .before .before .before .before .before .before .before .before .before .before .before .before .before .before .before .before .before .before .before .before .before .before .before .before .before .before .before .before .before .before .before .before .before .before .before .before .before .before .before .before .before .clear2 .ensures) (exact .counts)) j;
-            held = (cleared (at .held .now) (c .before .before .before .before .before .before .before .before .before .before .before .before .before .before .before .before .before .before .before .before .before .before .before .before .before .before .before .before .before .before .before .before .before .before .before .before .before .before .clear3 .ensures) (exact .held)) j;
-            candidates = (cleared (at .candidates .now) (c .before .before .before .before .before .before .before .before .before .before .before .before .before .before .before .before .before .before .before .before .before .before .before .before .before .before .before .before .before .before .before .before .before .before .clear4 .ensures) (exact .candidates)) j;
-            makers = (cleared (at .makers .now) (c .before .before .before .before .before .before .before .before .before .before .before .before .before .before .before .before .before .before .before .before .before .before .before .before .before .before .before .before .before .before .clear5 .ensures) (exact .makers)) j;
-            values = (cleared (at .values .now) (c .before .before .before .before .before .before .before .before .before .before .before .before .before .before .before .before .before .before .before .before .before .before .before .before .before .before .clear6 .ensures) (exact .values)) j;
-            changed = (cleared (at .changed .now) (c .before .before .before .before .before .before .before .before .before .before .before .before .before .before .before .before .before .before .before .before .before .before .clear7 .ensures) (exact .changed)) j;
-            registers = (cleared (at .registers .now) (c .before .before .before .before .before .before .before .before .before .before .before .before .before .before .before .before .before .before .clear8 .ensures) (exact .registers)) j;
-            snoops = (cleared (at .snoops .now) (c .before .before .before .before .before .before .before .before .before .before .before .before .before .before .clear9 .ensures) (exact .snoops)) j;
-            logs = (cleared (at .logs .now) (c .before .before .before .before .before .before .before .before .before .before .clear10 .ensures) (exact .logs)) j;
-            history = (cleared (at .history .now) (c .before .before .before .before .before .before .clear11 .ensures) (exact .history)) j;
-            lengths = (cleared (at .lengths .now) (c .before .before .clear12 .ensures) (exact .lengths)) j;
+            used = (cleared (at .used .now) (c .before .before .before .before .before .before .before .before .before .before .before .before .before .before .before .before .before .before .before .before .before .before .before .before .before .before .before .before .before .before .before .before .before .before .before .before .before .before .before .before .before .before .before .before .before .before .clear-marks .ensures) (exact .used)) j;
+            counts = (cleared (at .counts .now) (c .before .before .before .before .before .before .before .before .before .before .before .before .before .before .before .before .before .before .before .before .before .before .before .before .before .before .before .before .before .before .before .before .before .before .before .before .before .before .before .before .before .before .clear .ensures) (exact .counts)) j;
+            held = (cleared (at .held .now) (c .before .before .before .before .before .before .before .before .before .before .before .before .before .before .before .before .before .before .before .before .before .before .before .before .before .before .before .before .before .before .before .before .before .before .before .before .before .before .clear-marks2 .ensures) (exact .held)) j;
+            candidates = (cleared (at .candidates .now) (c .before .before .before .before .before .before .before .before .before .before .before .before .before .before .before .before .before .before .before .before .before .before .before .before .before .before .before .before .before .before .before .before .before .before .clear-marks3 .ensures) (exact .candidates)) j;
+            makers = (cleared (at .makers .now) (c .before .before .before .before .before .before .before .before .before .before .before .before .before .before .before .before .before .before .before .before .before .before .before .before .before .before .before .before .before .before .clear2 .ensures) (exact .makers)) j;
+            values = (cleared (at .values .now) (c .before .before .before .before .before .before .before .before .before .before .before .before .before .before .before .before .before .before .before .before .before .before .before .before .before .before .clear3 .ensures) (exact .values)) j;
+            changed = (cleared (at .changed .now) (c .before .before .before .before .before .before .before .before .before .before .before .before .before .before .before .before .before .before .before .before .before .before .clear-marks4 .ensures) (exact .changed)) j;
+            registers = (cleared (at .registers .now) (c .before .before .before .before .before .before .before .before .before .before .before .before .before .before .before .before .before .before .clear4 .ensures) (exact .registers)) j;
+            snoops = (cleared (at .snoops .now) (c .before .before .before .before .before .before .before .before .before .before .before .before .before .before .clear5 .ensures) (exact .snoops)) j;
+            logs = (cleared (at .logs .now) (c .before .before .before .before .before .before .before .before .before .before .clear6 .ensures) (exact .logs)) j;
+            history = (cleared (at .history .now) (c .before .before .before .before .before .before .clear7 .ensures) (exact .history)) j;
+            lengths = (cleared (at .lengths .now) (c .before .before .clear8 .ensures) (exact .lengths)) j;
           };
     }))
 
@@ -185,18 +185,18 @@ fresh-spec =
     same-length-11
     same-length-12
     returns
+    clear-marks-requires
     clear-requires
+    clear-marks-requires-2
+    clear-marks-requires-3
     clear-requires-2
     clear-requires-3
+    clear-marks-requires-4
     clear-requires-4
     clear-requires-5
     clear-requires-6
     clear-requires-7
     clear-requires-8
-    clear-requires-9
-    clear-requires-10
-    clear-requires-11
-    clear-requires-12
     same-length-13
     same-length-14
     same-length-15

@@ -43,6 +43,12 @@ cast-places-2 c = search needs
 mul-places : tie.Need-mul-places
 mul-places c = let at = c .before .before .before .before .before .before .before .args .s in omega (arith, product (at .w) (at .r) 65535 (omega arith) (omega arith))
 
+add-words : tie.Need-add-words
+add-words c = search needs
+
+add-link-words : tie.Need-add-link-words
+add-link-words c = let at = c .before .before .before .before .before .before .before .args .s in omega (arith, product (at .n) (at .k) 65535 (omega arith) (omega arith))
+
 add-result : tie.Need-add-result
 add-result c = let at = c .before .before .before .before .before .before .before .args .s in omega (arith, product (at .w) (at .r) 65535 (omega arith) (omega arith))
 
@@ -79,6 +85,8 @@ is-exact-spec =
     cast-places
     cast-places-2
     mul-places
+    add-words
+    add-link-words
     add-result
     mul-result
     mul-result-2

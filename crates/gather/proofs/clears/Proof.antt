@@ -3,7 +3,9 @@ use Prim.Native.Nat.{ℕ, _*_}
 use mathlib.Core.Path.{refl, ap, _∙_, subst}
 use mathlib.Core.Logic.{inl}
 use native.Mathlib.Omega.{arith}
-use lib.ListN.{getD, set}
+use lib.ListN.{getD}
+use mathlib.Core.Bool.{false}
+use Rattle.tables.specs.Bits.{marked}
 use borrow.Author.Needs.{needs}
 use Rattle.gather.proofs.Here.{onward-asks, entry-inside, entry-known}
 use Rattle.gather.proofs.Moves.{Onward, onward-answers, clears-on}
@@ -59,12 +61,12 @@ same-length c = search needs
 
 returns : tie.Need-returns
 returns c t known e =
-    let marked = c .before .before .before .before in
-    let read = marked .before .before .before .before in
+    let off = c .before .before .before .before in
+    let read = off .before .before .before .before in
     let at = read .before .before .before .before .before .before .args in
     clears-on known e
-    (marked .set-mark .ensures
-    ∙ ap (λ (l : ℕ). set (at .changed .now) l 0) (marked .before .wide3 .ensures ∙ ap (λ (i : ℕ). getD (at .history .now) (i * 2) 0) (read .wide2 .ensures)))
+    (off .set-mark .ensures
+    ∙ ap (λ (l : ℕ). marked (at .changed .now) l false) (off .before .wide3 .ensures ∙ ap (λ (i : ℕ). getD (at .history .now) (i * 2) 0) (read .wide2 .ensures)))
     (subst (λ (n : ℕ). Onward n n (at .c) (c .stepped .result))
     (ap (λ (i : ℕ). getD (at .lengths .now) i 0) (read .before .before .wide .ensures))
     (onward-answers _ (at .c) (omega arith) (c .stepped .ensures) (c .before .onward .ensures) refl))

@@ -1,6 +1,6 @@
 -- `gather::held_by` meets its contract. The loop's invariant: what the registers that are left do to the marks gives what all of them do to the marks at entry.
 -- Assumes nothing.
-use Prim.Native.Nat.{ℕ, _+_, _-_, _≤_}
+use Prim.Native.Nat.{ℕ, _+_, _-_, _*_, _≤_}
 use mathlib.Core.Path.{_≡_, refl, sym, ap, _∙_}
 use mathlib.Core.Logic.{⊎-elim}
 use mathlib.Core.List.{List}
@@ -8,11 +8,12 @@ use native.Mathlib.Omega.{arith}
 use lib.ListN.{length, getD, drop}
 use lib.Seq.{drop-length}
 use borrow.Author.Needs.{needs}
-use Rattle.rules.specs.Pool.{withRecord}
-use Rattle.laws.proofs.Lists.{Each-at, length-withRecord}
-use Rattle.tables.proofs.Counted.{marked-here}
+use mathlib.Core.Bool.{true}
+use Rattle.laws.proofs.Lists.{Each-at}
+use Rattle.tables.specs.Bits.{markRecord}
+use Rattle.tables.proofs.Packed.{mark-place}
 use Rattle.gather.specs.Raw.{heldIn}
-use Rattle.gather.proofs.Held.{held-next}
+use Rattle.gather.proofs.Held.{length-record, held-next}
 use Rattle.gather.proofs.held_by.Statement.{statement}
 use Rattle.gather.proofs.held_by.Tie as tie
 
@@ -41,7 +42,7 @@ set-mark-requires : tie.Need-set-mark-requires Inv-loop μ-loop
 set-mark-requires c κs =
     let start = c .before .before .before .before .before .before .before .before .before in
     let at = c .before .before .before .before .before .before .loop in
-    omega (arith, Each-at (λ a. a ≤ length (start .args .held .now)) (start .args .registers .now) (at .r) 0 (omega arith) (start .pre))
+    omega (arith, Each-at (λ a. a ≤ length (start .args .held .now) * 64) (start .args .registers .now) (at .r) 0 (omega arith) (start .pre))
 
 add-r : tie.Need-add-r Inv-loop μ-loop
 add-r c = search needs
@@ -54,13 +55,13 @@ loop-again c =
     let at = c .before .before .before .before .loop in
     let registers = c .before .before .before .before .before .before .before .args .registers .now in
     let a : ℕ = getD registers (at .r) 0 in
-    let marked : c .if1 .held ≡ withRecord (at .held) a 1 =
+    let marked : c .if1 .held ≡ markRecord (at .held) a true =
     ⊎-elim
-    (λ w. w .6 ∙ w .3 .ensures ∙ marked-here (at .held) a (w .2 .result - 1) 1 (omega arith) (omega arith))
-    (λ w. w .1 ∙ sym (ap (λ (i : ℕ). withRecord (at .held) i 1) (w .0 .left)))
+    (λ w. w .6 ∙ w .3 .ensures ∙ mark-place (at .held) a (w .2 .result - 1) true (omega arith) (omega arith))
+    (λ w. w .1 ∙ sym (ap (λ (i : ℕ). markRecord (at .held) i true) (w .0 .left)))
     (c .if1 .came) in (
       omega arith,
-      ap length marked ∙ length-withRecord (at .held) a 1 ∙ at .inv .1,
+      ap length marked ∙ length-record (at .held) a true ∙ at .inv .1,
       ap (heldIn (drop (at .r + 1) registers)) marked ∙ held-next registers (at .held) (at .r) (omega arith) ∙ at .inv .2,
     )
 

@@ -1,11 +1,12 @@
 -- `gather::scans` meets its contract: the position is a worker, whose flag is written and whose registers are a part of their table. Assumes nothing.
 use Prim.Native.Nat.{ℕ, _+_, _-_, _*_, _≤_}
-use mathlib.Core.Path.{_≡_, sym, ap, _∙_, subst₂}
+use mathlib.Core.Path.{_≡_, sym, ap, _∙_, subst}
 use mathlib.Core.List.{List}
 use native.Mathlib.Omega.{arith}
 use lib.ListN.{length, getD, take, drop, set}
 use borrow.Author.Needs.{needs}
 use Rattle.rules.specs.Sound.{Each}
+use Rattle.laws.proofs.Lists.{Each-map}
 use Rattle.laws.proofs.Number.{bounds, block-end}
 use Rattle.gather.specs.Raw.{heldIn}
 use Rattle.gather.proofs.Part.{part-is}
@@ -47,8 +48,8 @@ row-here c =
 wide-requires : tie.Need-wide-requires
 wide-requires c κs = search needs
 
-set-mark-requires : tie.Need-set-mark-requires
-set-mark-requires c κs =
+set-flag-requires : tie.Need-set-flag-requires
+set-flag-requires c κs =
     let entry = c .before .before .before .before .before .before in
     omega (arith, position-known (entry .pre .1) 4 (entry .pre .2), entry .pre .1 .exact .snoops)
 
@@ -80,8 +81,8 @@ held-by-requires : tie.Need-held-by-requires
 held-by-requires c κs =
     let entry = start (c .before .before) in
     let known = entry .pre .1 in
-    subst₂ (λ (n : ℕ) (part : List ℕ). Each (λ a. a ≤ n) part) (sym (known .exact .held)) (sym (row-here (c .before .before) .0))
-    (row-known known (entry .pre .2))
+    subst (λ (part : List ℕ). Each (λ a. a ≤ length (entry .args .held .now) * 64) part) (sym (row-here (c .before .before) .0))
+    (Each-map (take (entry .args .s .r) (drop (entry .args .c .position * entry .args .s .r) (entry .args .registers .now))) (λ a low. let h : a ≤ length (entry .args .held .now) * 64 = omega (arith, known .exact .held) in h) (row-known known (entry .pre .2)))
 
 wide-requires-3 : tie.Need-wide-requires-3
 wide-requires-3 c κs = search needs
@@ -113,7 +114,7 @@ returns c t known e =
     let marked = here .before .before .before .before in
     let at = start here .args in
     scans-on known e
-    (marked .set-mark .ensures ∙ ap (λ (i : ℕ). set (at .snoops .now) i 0) (marked .before .wide .ensures))
+    (marked .set-flag .ensures ∙ ap (λ (i : ℕ). set (at .snoops .now) i 0) (marked .before .wide .ensures))
     (scanned .held-by .ensures ∙ ap (λ (part : List ℕ). heldIn part (at .held .now)) (row-here here .0))
     (onward-answers (at .s .w) (at .c) (omega arith) (c .stepped .ensures) (c .before .onward .ensures)
     (ap (λ (i : ℕ). getD (at .lengths .now) i 0) (c .before .before .before .wide3 .ensures)))
@@ -123,7 +124,7 @@ scans-spec =
     tie.close
     (tie.spec
     wide-requires
-    set-mark-requires
+    set-flag-requires
     register-place-requires
     wide-requires-2
     add-to

@@ -12,8 +12,8 @@ use Rattle.gather.proofs.snoops.Tie as tie
 wide-requires : tie.Need-wide-requires
 wide-requires c κs = search needs
 
-set-mark-requires : tie.Need-set-mark-requires
-set-mark-requires c κs =
+set-flag-requires : tie.Need-set-flag-requires
+set-flag-requires c κs =
     let start = c .before .before .before .before in
     omega (arith, position-known (start .pre .1) 1 (start .pre .2), start .pre .1 .exact .snoops)
 
@@ -42,7 +42,7 @@ returns c t known e =
     let marked = c .before .before .before .before .before .before in
     let at = marked .before .before .before .before .before .args in
     snoops-on known e
-    (marked .set-mark .ensures ∙ ap (λ (i : ℕ). set (at .snoops .now) i 1) (marked .before .wide .ensures))
+    (marked .set-flag .ensures ∙ ap (λ (i : ℕ). set (at .snoops .now) i 1) (marked .before .wide .ensures))
     (onward-answers (at .s .w) (at .c) (omega arith) (c .stepped .ensures) (c .before .onward .ensures)
     (ap (λ (i : ℕ). getD (at .lengths .now) i 0) (c .before .before .before .wide2 .ensures)))
 
@@ -51,7 +51,7 @@ snoops-spec =
     tie.close
     (tie.spec
     wide-requires
-    set-mark-requires
+    set-flag-requires
     wide-requires-2
     mul-entries
     shared-slice-read-entries

@@ -6,6 +6,7 @@ use lib.ListN.{length, getD, set, length-set}
 use borrow.Author.Needs.{needs}
 use Rattle.rules.specs.Size.{links}
 use Rattle.laws.proofs.Number.{bounds, links-most}
+use Rattle.tables.specs.Bits.{wordCount}
 use Rattle.tables.specs.Lie.{room}
 use Rattle.gather.proofs.Part.{part-length, part-copied, part-cleared}
 use Rattle.gather.proofs.Here.{position-known, onward-asks, room-known}
@@ -139,7 +140,7 @@ clear-requires : tie.Need-clear-requires
 clear-requires c κs = search needs
 
 mul-lengths : tie.Need-mul-lengths
-mul-lengths c = omega (arith, lengths-here (read (placed c)) .4)
+mul-lengths c = omega (arith, lengths-here (read (placed c)) .4, start (read (placed c)) .good)
 
 slice-write-lengths : tie.Need-slice-write-lengths
 slice-write-lengths c = lengths-here (read (placed c)) .4
@@ -148,18 +149,21 @@ add-lengths : tie.Need-add-lengths
 add-lengths c = omega (arith, lengths-here (read (placed c)))
 
 mul-lengths-2 : tie.Need-mul-lengths-2
-mul-lengths-2 c = search needs
+mul-lengths-2 c =
+    let entry = start (read (placed c)) in
+    omega (arith, read (placed c) .wide2 .ensures, entry .pre .1 .exact .lengths, entry .good)
 
 slice-write-lengths-2 : tie.Need-slice-write-lengths-2
 slice-write-lengths-2 c =
     let entry = start (read (placed c)) in
-    omega (arith, entry .pre .1 .exact .lengths, length-set (entry .args .lengths .now) (read (placed c) .before .wide .result) 0)
+    omega (arith, read (placed c) .wide2 .ensures, entry .pre .1 .exact .lengths, length-set (entry .args .lengths .now) (read (placed c) .before .wide .result) 0)
 
 made-by-requires : tie.Need-made-by-requires
 made-by-requires c κs =
     let entry = start (read (placed (c .before .before))) in
     let known = entry .pre .1 in (
-      known .exact .candidates ∙ sym (known .exact .makers),
+      known .exact .candidates ∙ ap wordCount (sym (known .exact .makers)),
+      omega (arith, known .exact .makers, bounds (entry .args .s) (known .sizes) .n-most),
       omega (arith, position-known known 2 (entry .pre .2), bounds (entry .args .s) (known .sizes) .w-most),
     )
 

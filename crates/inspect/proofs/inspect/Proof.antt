@@ -95,7 +95,7 @@ returns-2 c =
     decided (fromCollector (c .before)) true false _ _ (lengths-pass (c .before .before .before .before)) fails refl refl
 
 numbers-fit-requires : tie.Need-numbers-fit-requires
-numbers-fit-requires c κs = search needs
+numbers-fit-requires c κs = let exact = fromCollector (c .before) .pre .1 in (exact .used, exact .held, exact .candidates)
 
 returns-3 : tie.Need-returns-3
 returns-3 c =

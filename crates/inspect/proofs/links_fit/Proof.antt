@@ -12,6 +12,7 @@ use Rattle.rules.specs.Size.{links}
 use Rattle.tables.specs.Tables.{Tables}
 use Rattle.tables.specs.Lie.{entries}
 use Rattle.laws.proofs.Number.{links-most, bounds}
+use Rattle.tables.specs.Bits.{wordCount}
 use Rattle.clauses.specs.Entered.{once}
 use Rattle.clauses.specs.Tallied.{tallied}
 use Rattle.clauses.specs.Inspected.{unclearedFrom, notedLinks, linksFit}
@@ -232,13 +233,13 @@ part-all-zero-end c = search needs
 all-zero-requires : tie.Need-all-zero-requires
 all-zero-requires c κs = search needs
 
-at-most-requires : tie.Need-at-most-requires
-at-most-requires c κs = search needs
+unused-off-requires : tie.Need-unused-off-requires
+unused-off-requires c κs = let at = entering (c .before .before) in fits at .exact .changed ∙ ap wordCount (sym (same at))
 
 marks-match-requires : tie.Need-marks-match-requires
 marks-match-requires c κs =
     let at = entering (c .before .before .before .before) in
-    omega (arith, fits at .exact .changed, links-most (start at .args .s) (fits at .sizes))
+    (omega (arith, same at, links-most (start at .args .s) (fits at .sizes)), fits at .exact .changed ∙ ap wordCount (sym (same at)))
 
 wide-requires-5 : tie.Need-wide-requires-5
 wide-requires-5 c κs = search needs
@@ -269,7 +270,7 @@ returns c t =
     (last .enter3 .ensures (end at - from at) (part-long at (from at) (end at) (le-refl (end at))))
     (logs .enter-logs .ensures .0)
     (c .before .before .before .before .before .before .before .before .before .all-zero .ensures)
-    (c .before .before .before .before .before .before .before .before .at-most .ensures)
+    (c .before .before .before .before .before .before .before .before .unused-off .ensures)
     (c .before .before .before .before .before .before .marks-match .ensures)
     (c .before .before .tally-links .ensures .0 ∙ ap (λ (n : ℕ). tallied (last .enter3 .last .1 .0) n (replicate 8320 0)) (c .before .before .before .wide5 .ensures))
     (c .counts-match .ensures)
@@ -309,7 +310,7 @@ links-fit-spec =
     part-all-zero-start
     part-all-zero-end
     all-zero-requires
-    at-most-requires
+    unused-off-requires
     marks-match-requires
     wide-requires-5
     tally-links-requires

@@ -4,8 +4,8 @@ use mathlib.Core.Path.{sym, ap, _∙_}
 use mathlib.Core.List.{List}
 use borrow.Author.Needs.{needs}
 use lib.ListN.{length, take}
-use Rattle.rules.specs.Outcome.{freeMarks}
-use Rattle.tables.specs.Lie.{marks}
+use Rattle.tables.specs.Bits.{wordCount}
+use Rattle.fresh.specs.Free.{freeIn}
 use Rattle.trace.specs.Stand.{standBehind}
 use Rattle.parts.specs.Arrays.{partOf}
 use Rattle.parts.proofs.First.{later-small, later-events, later-ended}
@@ -42,7 +42,7 @@ returns-3 c =
     λ t same set.
     later-ended set (at .last) (at .bytes .now) (c .before .enum-told3 .given .1)
     (c .end-part .ensures
-    ∙ ap (λ (used : List ℕ). partOf (at .x) (standBehind (at .last) (freeMarks (marks (take (at .x .sizes .n) used))) (at .x .collector .closed) (at .bytes .now) 0 (at .x .reader)) 0)
+    ∙ ap (λ (used : List ℕ). partOf (at .x) (standBehind (at .last) (freeIn (at .x .sizes .n) (take (wordCount (at .x .sizes .n)) used)) (at .x .collector .closed) (at .bytes .now) 0 (at .x .reader)) 0)
     (sym same))
 
 pub begin-part-spec : {M : Type 1} → statement M

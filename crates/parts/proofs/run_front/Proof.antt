@@ -4,6 +4,7 @@ use Prim.Native.Nat.{_+_, _*_}
 use native.Mathlib.Omega.{arith}
 use borrow.Author.Needs.{needs}
 use Rattle.rules.specs.Size.{links}
+use Rattle.tables.specs.Bits.{wordCount}
 use Rattle.tables.specs.Tables.{Tables, lent}
 use Rattle.tables.specs.Lie.{room}
 use Rattle.trace.specs.Stretch.{RanOn}
@@ -76,6 +77,13 @@ add-links : tie.Need-add-links
 unfolding links
 add-links c = let start = c .before .before .before .before .before .before .before .before .before .before .before .before .before .before .before .before .before .before in omega (arith, links-few (start .args .s) (start .pre .1 .0))
 
+add-words : tie.Need-add-words
+add-words c = search needs
+
+add-link-words : tie.Need-add-link-words
+unfolding links
+add-link-words c = let start = c .before .before .before .before .before .before .before .before .before .before .before .before .before .before .before .before .before .before in omega (arith, links-few (start .args .s) (start .pre .1 .0))
+
 cast-all : tie.Need-cast-all
 cast-all c = search needs
 
@@ -100,7 +108,7 @@ slice-relend-prefix-run-events : tie.Need-slice-relend-prefix-run-events
 slice-relend-prefix-run-events c = inside (fromSizes c) .used
 
 slice-aggregate-run-events : tie.Need-slice-aggregate-run-events
-slice-aggregate-run-events c = let start = fromSizes (c .before) in counted (start .args .s .n) (start .args .used .now) (inside start .used)
+slice-aggregate-run-events c = let start = fromSizes (c .before) in counted (wordCount (start .args .s .n)) (start .args .used .now) (inside start .used)
 
 slice-relend-prefix-run-events-2 : tie.Need-slice-relend-prefix-run-events-2
 slice-relend-prefix-run-events-2 c = inside (fromSizes (c .before)) .counts
@@ -112,13 +120,13 @@ slice-relend-prefix-run-events-3 : tie.Need-slice-relend-prefix-run-events-3
 slice-relend-prefix-run-events-3 c = inside (fromSizes (c .before .before)) .held
 
 slice-aggregate-run-events-3 : tie.Need-slice-aggregate-run-events-3
-slice-aggregate-run-events-3 c = let start = fromSizes (c .before .before .before) in counted (start .args .s .n) (start .args .held .now) (inside start .held)
+slice-aggregate-run-events-3 c = let start = fromSizes (c .before .before .before) in counted (wordCount (start .args .s .n)) (start .args .held .now) (inside start .held)
 
 slice-relend-prefix-run-events-4 : tie.Need-slice-relend-prefix-run-events-4
 slice-relend-prefix-run-events-4 c = inside (fromSizes (c .before .before .before)) .candidates
 
 slice-aggregate-run-events-4 : tie.Need-slice-aggregate-run-events-4
-slice-aggregate-run-events-4 c = let start = fromSizes (c .before .before .before .before) in counted (start .args .s .n) (start .args .candidates .now) (inside start .candidates)
+slice-aggregate-run-events-4 c = let start = fromSizes (c .before .before .before .before) in counted (wordCount (start .args .s .n)) (start .args .candidates .now) (inside start .candidates)
 
 slice-relend-prefix-run-events-5 : tie.Need-slice-relend-prefix-run-events-5
 slice-relend-prefix-run-events-5 c = inside (fromSizes (c .before .before .before .before)) .makers
@@ -140,7 +148,7 @@ slice-relend-prefix-run-events-7 c = inside (fromSizes (c .before .before .befor
 
 slice-aggregate-run-events-7 : tie.Need-slice-aggregate-run-events-7
 unfolding links
-slice-aggregate-run-events-7 c = let start = fromSizes (c .before .before .before .before .before .before .before) in counted (links (start .args .s)) (start .args .changed .now) (inside start .changed)
+slice-aggregate-run-events-7 c = let start = fromSizes (c .before .before .before .before .before .before .before) in counted (wordCount (links (start .args .s))) (start .args .changed .now) (inside start .changed)
 
 slice-relend-prefix-run-events-8 : tie.Need-slice-relend-prefix-run-events-8
 slice-relend-prefix-run-events-8 c = inside (fromSizes (c .before .before .before .before .before .before .before)) .registers
@@ -237,6 +245,8 @@ run-front-spec =
     mul-links
     cast-links-2
     add-links
+    add-words
+    add-link-words
     cast-all
     mul-all
     add-all

@@ -6,15 +6,16 @@ use mathlib.Core.Bool.{not}
 use mathlib.Core.List.{List}
 use native.Mathlib.Omega.{arith}
 use borrow.Author.Needs.{needs}
-use lib.ListN.{length, getD, set, length-set}
+use lib.ListN.{length, set, length-set}
 use Rattle.rules.specs.Size.{linkNumber}
 use Rattle.rules.specs.Collect.{isUnchanged, emptiedFrom, empties}
 use Rattle.tables.specs.Tables.{Tables, putCounts, putCandidates, putValues, putChanged}
-use Rattle.tables.specs.Lie.{isOn}
+use Rattle.laws.proofs.Number.{link-inside}
+use Rattle.tables.specs.Bits.{wordCount, markAt}
 use Rattle.tables.proofs.RoundTrip.{known-back}
 use Rattle.tables.proofs.Stand.{changed-stands}
 use Rattle.reclaim.specs.Lent.{InPool, Leaves}
-use Rattle.reclaim.proofs.Emptied.{emptiedTables, emptied-first, emptied-next, emptied-over, Fit, value-fits}
+use Rattle.reclaim.proofs.Emptied.{emptiedTables, emptied-first, emptied-next, emptied-over, Fit, value-low, value-fits}
 use Rattle.reclaim.proofs.empties.Statement.{statement}
 use Rattle.reclaim.proofs.empties.Tie as tie
 
@@ -59,10 +60,10 @@ place-is c = c .wide .ensures ∙ ap (λ l. l .0) (c .before .link-number .ensur
 
 -- what the test says
 changed-is : (c : tie.After-is-on Inv-loop μ-loop) → let start = c .before .before .before .before .before .before .before .before .before .before .args in
-    c .is-on .result ≡ isOn (getD (start .changed .now) (linkNumber (start .s) (start .a) (c .before .before .before .before .before .loop .f) .0) 0)
+    c .is-on .result ≡ markAt (start .changed .now) (linkNumber (start .s) (start .a) (c .before .before .before .before .before .loop .f) .0)
 changed-is c =
     let start = c .before .before .before .before .before .before .before .before .before .before .args in
-    c .is-on .ensures ∙ ap (λ (i : ℕ). isOn (getD (start .changed .now) i 0)) (place-is (c .before))
+    c .is-on .ensures ∙ ap (markAt (start .changed .now)) (place-is (c .before))
 
 loop-less : tie.Need-loop-less Inv-loop μ-loop
 loop-less c = search needs
@@ -80,7 +81,7 @@ loop-again c =
       at .inv .3,
       λ t c' inside.
           emptied-over _ (start .s) (start .a) (at .f) _ (u t)
-          (ap not (changed-stands (start .s) _ c' (linkNumber (start .s) (start .a) (at .f)) ∙ sym (changed-is tested) ∙ c .if2 .taken))
+          (ap not (changed-stands (start .s) _ c' (linkNumber (start .s) (start .a) (at .f)) (link-inside (start .s) (start .a) (at .f) (inside .some) (inside .low) (omega arith)) ∙ sym (changed-is tested) ∙ c .if2 .taken))
           (at .inv .4 t c' inside),
     )
 
@@ -103,11 +104,11 @@ falls-requires c κs =
     let fit : Fit (start .args .s) (placed .wide .result) u =
     rw (place-is placed)
     (value-fits inside (at .f) (omega arith)
-    (changed-stands (start .args .s) _ (start .pre .1) (linkNumber (start .args .s) (start .args .a) (at .f)) ∙ sym (changed-is tested) ∙ branch .if2 .left)
+    (changed-stands (start .args .s) _ (start .pre .1) (linkNumber (start .args .s) (start .args .a) (at .f)) (link-inside (start .args .s) (start .args .a) (at .f) (inside .some) (inside .low) (omega arith)) ∙ sym (changed-is tested) ∙ branch .if2 .left)
     u
     (at .inv .4 t (start .pre .1) inside)) in (
       omega (arith, fit .0, inside .known .exact .counts),
-      omega (arith, inside .known .exact .counts, inside .known .exact .candidates),
+      at .inv .2 ∙ inside .known .exact .candidates ∙ ap wordCount (sym (at .inv .1 ∙ inside .known .exact .counts)),
       fit .1,
     )
 
@@ -137,7 +138,8 @@ loop-again-2 c =
       length-set (at .values) place 0 ∙ at .inv .3,
       λ t c' inside.
           emptied-next _ (start .s) (start .a) (at .f) _ (u t)
-          (ap not (changed-stands (start .s) _ c' (linkNumber (start .s) (start .a) (at .f)) ∙ sym (changed-is tested) ∙ branch .if2 .left))
+          (omega (arith, value-low inside (at .f), inside .known .tables .sound .shaped .records .candidate))
+          (ap not (changed-stands (start .s) _ c' (linkNumber (start .s) (start .a) (at .f)) (link-inside (start .s) (start .a) (at .f) (inside .some) (inside .low) (omega arith)) ∙ sym (changed-is tested) ∙ branch .if2 .left))
           (at .inv .4 t c' inside)
           ∙ ap (λ (l : ℕ). emptiedTables l (u t)) (sym (place-is placed))
           ∙ (λ j. among (sym (falls .ensures .0) j) (sym (falls .ensures .1) j) (set (at .values) place 0) changed t),

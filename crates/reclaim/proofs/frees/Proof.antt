@@ -3,11 +3,12 @@ use Prim.Native.Nat.{ℕ}
 use mathlib.Core.Path.{_≡_, sym, _∙_}
 use mathlib.Core.List.{List}
 use borrow.Author.Needs.{needs}
-use lib.ListN.{set}
-use Rattle.rules.specs.Pool.{withRecord}
+use mathlib.Core.Bool.{false}
+use native.Mathlib.Omega.{arith}
+use Rattle.tables.specs.Bits.{marked, markRecord}
 use Rattle.tables.specs.Tables.{Tables, putUsed, putCounts, putCandidates, putValues, putChanged}
 use Rattle.tables.specs.Lie.{poolOf}
-use Rattle.tables.proofs.Counted.{marked-here}
+use Rattle.tables.proofs.Packed.{mark-place}
 use Rattle.reclaim.specs.Lent.{freesOn}
 use Rattle.reclaim.proofs.Emptied.{freed-next}
 use Rattle.reclaim.proofs.frees.Statement.{statement}
@@ -47,12 +48,15 @@ returns c t c' asked =
     let used = start .used .now in
     let a = start .a .0 in
     let place = c .before .before .before .before .before .before .before .before .record-place in
-    let off : (marks : List ℕ) → set marks (place .result) 0 ≡ withRecord marks a 0 =
-    λ marks. marked-here marks a (place .result) 0 (asked .inside .some) (place .ensures) in
+    let off : (marks : List ℕ) → marked marks (place .result) false ≡ markRecord marks a false =
+    λ marks. mark-place marks a (place .result) false (asked .inside .some) (place .ensures) in
+    let shaped = asked .inside .known .tables .sound .shaped .records in
     let candidates = empties .last .1 .1 .0 in
     let rest : Tables = putCounts (empties .last .1 .0) (putValues (empties .last .1 .1 .1 .0) (putChanged (start .changed .now) t)) in
     freed-next (start .s) (start .a) (poolOf (start .s) (freesOn (start .used) (start .counts) (start .candidates) (start .values) (start .changed) t) c')
     (putUsed used (putCandidates candidates rest))
+    (omega (arith, shaped .used, asked .inside .low))
+    (omega (arith, shaped .candidate, asked .inside .low))
     (asked .unchanged)
     (empties .ensures (putUsed used t) c' (asked .inside))
     ∙ (λ j.

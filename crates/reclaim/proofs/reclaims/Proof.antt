@@ -6,6 +6,8 @@ use native.Mathlib.Omega.{arith}
 use borrow.Author.Needs.{needs}
 use borrow.Author.Tests.{not-true, not-false}
 use Rattle.rules.specs.declared.Answer.the-variants.{Stepped}
+use Rattle.laws.proofs.Number.{bounds}
+use Rattle.tables.specs.Bits.{wordCount}
 use Rattle.tables.specs.Tables.{Tables, putUsed, putCounts, putHeld, putCandidates, putValues, putChanged}
 use Rattle.advance.proofs.Moved.{closing-moves}
 use Rattle.reclaim.specs.Lent.{reclaimsOn, InPool}
@@ -17,7 +19,10 @@ reclaimed-requires : tie.Need-reclaimed-requires
 reclaimed-requires c κs = search needs
 
 closes-requires : tie.Need-closes-requires
-closes-requires c κs = search needs
+closes-requires c κs =
+    let start = c .before .before .before .before .before .before .before .before .before .before .before .before .before .before .before .before .before in
+    let known = start .pre .1 in
+    (known .exact .candidates ∙ ap wordCount (sym (known .exact .counts)), omega (arith, known .exact .counts, bounds (start .args .s) (known .sizes) .n-most))
 
 onward-requires : tie.Need-onward-requires
 onward-requires c κs =

@@ -5,15 +5,14 @@ use mathlib.Core.Bool.{false}
 use native.Mathlib.Omega.{arith}
 use borrow.Author.Count.{below-more}
 use borrow.Author.Needs.{needs}
-use lib.ListN.{getD}
 use Rattle.rules.specs.Size.{linkNumber}
-use Rattle.tables.specs.Lie.{isOn}
+use Rattle.tables.specs.Bits.{markAt}
 use Rattle.reclaim.proofs.Found.{links-unchanged, link-changed}
 use Rattle.reclaim.proofs.unchanged.Statement.{statement}
 use Rattle.reclaim.proofs.unchanged.Tie as tie
 
 abbrev Inv-loop : tie.InvT-loop
-Inv-loop s changed a f₀ f = (f ≤ s .k) × ((g : ℕ) → g < f → isOn (getD changed (linkNumber s a g .0) 0) ≡ false)
+Inv-loop s changed a f₀ f = (f ≤ s .k) × ((g : ℕ) → g < f → markAt changed (linkNumber s a g .0) ≡ false)
 
 abbrev μ-loop : tie.MeasureT-loop
 μ-loop s changed a f₀ f = s .k - f
@@ -34,16 +33,17 @@ is-on-requires c κs = search needs
 
 -- what the test says
 changed-is : (c : tie.After-is-on Inv-loop μ-loop) → let start = c .before .before .before .before .before .before .before .args in
-    c .is-on .result ≡ isOn (getD (start .changed .now) (linkNumber (start .s) (start .a) (c .before .before .before .before .before .loop .f) .0) 0)
+    c .is-on .result ≡ markAt (start .changed .now) (linkNumber (start .s) (start .a) (c .before .before .before .before .before .loop .f) .0)
 changed-is c =
     let start = c .before .before .before .before .before .before .before .args in
-    c .is-on .ensures ∙ ap (λ (i : ℕ). isOn (getD (start .changed .now) i 0)) (c .before .wide .ensures ∙ ap (λ l. l .0) (c .before .before .link-number .ensures .0))
+    c .is-on .ensures ∙ ap (markAt (start .changed .now)) (c .before .wide .ensures ∙ ap (λ l. l .0) (c .before .before .link-number .ensures .0))
 
 returns : tie.Need-returns Inv-loop μ-loop
 returns c t c' =
     let start = c .before .before .before .before .before .before .before .before .args in
     let f = c .before .before .before .before .before .before .loop .f in
-    sym (link-changed (start .s) _ c' (start .a) f (omega arith) (sym (changed-is (c .before)) ∙ c .if2 .taken))
+    let of-pool = c .before .before .before .before .before .before .before .before .pre .0 in
+    sym (link-changed (start .s) _ c' (start .a) (of-pool .some) (of-pool .low) f (omega arith) (sym (changed-is (c .before)) ∙ c .if2 .taken))
 
 add-f : tie.Need-add-f Inv-loop μ-loop
 add-f c = search needs
@@ -59,7 +59,8 @@ loop-again c =
 returns-2 : tie.Need-returns-2 Inv-loop μ-loop
 returns-2 c t c' =
     let start = c .before .before .before .before .args in
-    sym (links-unchanged (start .s) _ c' (start .a) (λ f low. c .before .before .loop .inv .1 f (omega arith)))
+    let of-pool = c .before .before .before .before .pre .0 in
+    sym (links-unchanged (start .s) _ c' (start .a) (of-pool .some) (of-pool .low) (λ f low. c .before .before .loop .inv .1 f (omega arith)))
 
 pub unchanged-spec : {M : Type 1} → statement M
 unchanged-spec =

@@ -4,6 +4,7 @@ use mathlib.Core.Path.{sym, _∙_}
 use native.Mathlib.Omega.{arith}
 use borrow.Author.Needs.{needs}
 use Rattle.rules.specs.Size.{links}
+use Rattle.tables.specs.Bits.{wordCount}
 use Rattle.tables.specs.Tables.{Tables, lent}
 use Rattle.tables.specs.Lie.{room}
 use Rattle.parts.specs.Arrays.{front}
@@ -65,6 +66,13 @@ add-links : tie.Need-add-links
 unfolding links
 add-links c = let start = c .before .before .before .before .before .before .before .before .before .before .before .before .before .before .before .before .before in omega (arith, links-few (start .args .s) (start .pre .1 .0))
 
+add-words : tie.Need-add-words
+add-words c = search needs
+
+add-link-words : tie.Need-add-link-words
+unfolding links
+add-link-words c = let start = c .before .before .before .before .before .before .before .before .before .before .before .before .before .before .before .before .before in omega (arith, links-few (start .args .s) (start .pre .1 .0))
+
 cast-all : tie.Need-cast-all
 cast-all c = search needs
 
@@ -89,7 +97,7 @@ slice-relend-prefix-tally-events : tie.Need-slice-relend-prefix-tally-events
 slice-relend-prefix-tally-events c = inside (c .before .before .before .before .before .before .before .before .before .before .before .before .before .before .before .before .before .before) .used
 
 slice-aggregate-tally-events : tie.Need-slice-aggregate-tally-events
-slice-aggregate-tally-events c = let start = c .before .before .before .before .before .before .before .before .before .before .before .before .before .before .before .before .before .before .before in let s = start .args .s in counted (s .n) (start .args .used .now) (inside start .used)
+slice-aggregate-tally-events c = let start = c .before .before .before .before .before .before .before .before .before .before .before .before .before .before .before .before .before .before .before in let s = start .args .s in counted (wordCount (s .n)) (start .args .used .now) (inside start .used)
 
 slice-relend-prefix-tally-events-2 : tie.Need-slice-relend-prefix-tally-events-2
 slice-relend-prefix-tally-events-2 c = inside (c .before .before .before .before .before .before .before .before .before .before .before .before .before .before .before .before .before .before .before) .counts
@@ -101,13 +109,13 @@ slice-relend-prefix-tally-events-3 : tie.Need-slice-relend-prefix-tally-events-3
 slice-relend-prefix-tally-events-3 c = inside (c .before .before .before .before .before .before .before .before .before .before .before .before .before .before .before .before .before .before .before .before) .held
 
 slice-aggregate-tally-events-3 : tie.Need-slice-aggregate-tally-events-3
-slice-aggregate-tally-events-3 c = let start = c .before .before .before .before .before .before .before .before .before .before .before .before .before .before .before .before .before .before .before .before .before in let s = start .args .s in counted (s .n) (start .args .held .now) (inside start .held)
+slice-aggregate-tally-events-3 c = let start = c .before .before .before .before .before .before .before .before .before .before .before .before .before .before .before .before .before .before .before .before .before in let s = start .args .s in counted (wordCount (s .n)) (start .args .held .now) (inside start .held)
 
 slice-relend-prefix-tally-events-4 : tie.Need-slice-relend-prefix-tally-events-4
 slice-relend-prefix-tally-events-4 c = inside (c .before .before .before .before .before .before .before .before .before .before .before .before .before .before .before .before .before .before .before .before .before) .candidates
 
 slice-aggregate-tally-events-4 : tie.Need-slice-aggregate-tally-events-4
-slice-aggregate-tally-events-4 c = let start = c .before .before .before .before .before .before .before .before .before .before .before .before .before .before .before .before .before .before .before .before .before .before in let s = start .args .s in counted (s .n) (start .args .candidates .now) (inside start .candidates)
+slice-aggregate-tally-events-4 c = let start = c .before .before .before .before .before .before .before .before .before .before .before .before .before .before .before .before .before .before .before .before .before .before in let s = start .args .s in counted (wordCount (s .n)) (start .args .candidates .now) (inside start .candidates)
 
 slice-relend-prefix-tally-events-5 : tie.Need-slice-relend-prefix-tally-events-5
 slice-relend-prefix-tally-events-5 c = inside (c .before .before .before .before .before .before .before .before .before .before .before .before .before .before .before .before .before .before .before .before .before .before) .makers
@@ -129,7 +137,7 @@ slice-relend-prefix-tally-events-7 c = inside (c .before .before .before .before
 
 slice-aggregate-tally-events-7 : tie.Need-slice-aggregate-tally-events-7
 unfolding links
-slice-aggregate-tally-events-7 c = let start = c .before .before .before .before .before .before .before .before .before .before .before .before .before .before .before .before .before .before .before .before .before .before .before .before .before in let s = start .args .s in counted (links s) (start .args .changed .now) (inside start .changed)
+slice-aggregate-tally-events-7 c = let start = c .before .before .before .before .before .before .before .before .before .before .before .before .before .before .before .before .before .before .before .before .before .before .before .before .before in let s = start .args .s in counted (wordCount (links s)) (start .args .changed .now) (inside start .changed)
 
 slice-relend-prefix-tally-events-8 : tie.Need-slice-relend-prefix-tally-events-8
 slice-relend-prefix-tally-events-8 c = inside (c .before .before .before .before .before .before .before .before .before .before .before .before .before .before .before .before .before .before .before .before .before .before .before .before .before) .registers
@@ -226,6 +234,8 @@ tally-front-spec =
     mul-links
     cast-links-2
     add-links
+    add-words
+    add-link-words
     cast-all
     mul-all
     add-all

@@ -6,7 +6,6 @@ use mathlib.Core.List.{[], _∷_}
 use native.Mathlib.Omega.{arith}
 use types.Run.{miss}
 use borrow.Author.Needs.{needs}
-use Rattle.laws.proofs.Number.{bounds}
 use Rattle.tables.specs.Tables.{Tables, lent}
 use Rattle.tables.specs.Event.{Called}
 use Rattle.trace.proofs.Sized.{Started, fresh-starts, started-known}
@@ -133,10 +132,7 @@ tally-events-requires c κs =
     (started-known (fromFresh (fromMatch reached) .pre) (begun reached), record { opening = omega arith; taken = omega arith; freed = omega arith })
 
 stand-behind-requires : tie.Need-stand-behind-requires
-stand-behind-requires c κs =
-    let reached = c .before .before .before .before .before .before .before .before .before .before .before .before .before .before .before .before .before .before .before .before .before .before .before .before .before .before .before .before .before .before .before .before .before .before .before .before .before .before .before .before .before .before .before in
-    let start = fromFresh (fromMatch reached) in
-    omega (arith, c .before .before .before .before .before .before .before .before .before .before .before .before .before .before .before .before .before .before .before .before .before .before .before .before .before .before .before .before .used2 .given, started-known (start .pre) (begun reached) .exact .used, bounds (start .args .s) (start .pre) .n-most)
+stand-behind-requires c κs = search needs
 
 ending-of-requires : tie.Need-ending-of-requires
 ending-of-requires c κs = search needs

@@ -2,9 +2,7 @@
 -- the trace ends. Assumes nothing.
 use mathlib.Core.Path.{_∙_}
 use mathlib.Core.List.{[], _∷_}
-use native.Mathlib.Omega.{arith}
 use types.Run.{miss}
-use Rattle.laws.proofs.Number.{bounds}
 use Rattle.tables.specs.Tables.{Tables, lent}
 use Rattle.tables.specs.Event.{Called}
 use Rattle.trace.proofs.Sized.{fresh-refused, Started, fresh-starts, started-known, sized-ends}
@@ -115,10 +113,7 @@ run-events-requires c κs =
     started-known (fromFresh (fromMatch reached) .pre) (begun reached)
 
 stand-behind-requires : tie.Need-stand-behind-requires
-stand-behind-requires c κs =
-    let reached = c .before .before .before .before .before .before .before .before .before .before .before .before .before .before .before .before .before .before .before .before .before .before .before .before .before .before .before .before .before .before .before .before .before .before .before .before .before .before .before .before .before .before in
-    let start = fromFresh (fromMatch reached) in
-    omega (arith, c .before .before .before .before .before .before .before .before .before .before .before .before .before .before .before .before .before .before .before .before .before .before .before .before .before .before .before .used2 .given, started-known (start .pre) (begun reached) .exact .used, bounds (start .args .s) (start .pre) .n-most)
+stand-behind-requires c κs = search needs
 
 ending-of-requires : tie.Need-ending-of-requires
 ending-of-requires c κs = search needs

@@ -9,12 +9,11 @@ use types.Run.{miss}
 use borrow.Author.Needs.{needs}
 use lib.Dec.{ltb}
 use lib.ListN.{length}
-use Rattle.rules.specs.Outcome.{freeMarks}
-use Rattle.tables.specs.Lie.{marks}
+use Rattle.fresh.specs.Free.{freeIn}
 use Rattle.fields.specs.Part.{longest}
 use Rattle.trace.specs.declared.Ending.the-variants.{Whole}
 use Rattle.trace.specs.Stand.{waits, ended, stood, standBehind}
-use Rattle.trace.proofs.Behind.{free-most, few-left, waits-are, look-waits, look-finds, look-other, stood-out}
+use Rattle.trace.proofs.Behind.{few-left, waits-are, look-waits, look-finds, look-other, stood-out}
 use Rattle.trace.proofs.stand_behind.Statement.{statement}
 use Rattle.trace.proofs.stand_behind.Tie as tie
 use Rattle.trace.proofs.stand_behind.Reads as reads
@@ -23,11 +22,11 @@ use Rattle.fields.proofs.read_at.Reads as read-at-reads
 use Rattle.fresh.proofs.free_records.Reads as free-records-reads
 
 abbrev Inv-loop : tie.InvT-loop
-Inv-loop used closed bytes place last fields₀ next₀ now₀ fields next now =
-    (fields ≤ 2) × (stood fields last (freeMarks (marks used)) closed bytes next now ≡ standBehind last (freeMarks (marks used)) closed bytes next₀ now₀)
+Inv-loop n used closed bytes place last fields₀ next₀ now₀ fields next now =
+    (fields ≤ 2) × (stood fields last (freeIn n used) closed bytes next now ≡ standBehind last (freeIn n used) closed bytes next₀ now₀)
 
 abbrev μ-loop : tie.MeasureT-loop
-μ-loop used closed bytes place last fields₀ next₀ now₀ fields next now = fields
+μ-loop n used closed bytes place last fields₀ next₀ now₀ fields next now = fields
 
 few : (c : tie.Joined1 Inv-loop μ-loop) → c .if1 .if2 ≡ ltb (length (c .before .before .before .before .before .args .bytes .now)) (c .before .before .loop .next + longest)
 few c =
@@ -48,7 +47,7 @@ returns : tie.Need-returns Inv-loop μ-loop
 returns c =
     let at = c .before .before .before in
     let start = at .before .before .before in
-    look-waits (at .loop .fields) (start .args .last) (freeMarks (marks (start .args .used .now))) (start .args .closed) (start .args .bytes .now) (at .loop .next) (at .loop .now)
+    look-waits (at .loop .fields) (start .args .last) (freeIn (start .args .n) (start .args .used .now)) (start .args .closed) (start .args .bytes .now) (at .loop .next) (at .loop .now)
     (c .before .before .loop-test .taken)
     (waits-are (start .args .last) (start .args .bytes .now) (at .loop .next) (few (c .before)) (c .if2 .taken))
     ∙ at .loop .inv .1
@@ -71,7 +70,7 @@ loop-again c =
     let start = at .before .before .before in
     let seen = c .before .before .before .before in (
       omega arith,
-      look-finds (at .loop .fields) (start .args .last) (freeMarks (marks (start .args .used .now))) (start .args .closed) (start .args .bytes .now) (at .loop .next) (at .loop .now)
+      look-finds (at .loop .fields) (start .args .last) (freeIn (start .args .n) (start .args .used .now)) (start .args .closed) (start .args .bytes .now) (at .loop .next) (at .loop .now)
           (c .before .before .before .before .before .before .loop-test .taken)
           (goes seen)
           (c .before .before .before .read-at .ensures)
@@ -85,10 +84,10 @@ enum-told-2 c = search needs
 free-records-requires : tie.Need-free-records-requires Inv-loop μ-loop
 free-records-requires c κs = search needs
 
-cast-t34 : tie.Need-cast-t34 Inv-loop μ-loop
-cast-t34 c =
+cast-t36 : tie.Need-cast-t36 Inv-loop μ-loop
+cast-t36 c =
     let start = c .before .before .before .before .before .before .before .before .before .before in
-    omega (arith, c .free-records .ensures, free-most (start .args .used .now), start .pre)
+    omega (arith, c .free-records .ensures, start .fits .n)
 
 returns-2 : tie.Need-returns-2 Inv-loop μ-loop
 returns-2 c =
@@ -96,7 +95,7 @@ returns-2 c =
     let start = at .before .before .before in
     let free = c .free-records in
     ap (λ (n : ℕ). ended (Whole n (start .args .closed)) (at .loop .next) (at .loop .now)) (free .ensures)
-    ∙ look-finds (at .loop .fields) (start .args .last) (freeMarks (marks (start .args .used .now))) (start .args .closed) (start .args .bytes .now) (at .loop .next) (at .loop .now)
+    ∙ look-finds (at .loop .fields) (start .args .last) (freeIn (start .args .n) (start .args .used .now)) (start .args .closed) (start .args .bytes .now) (at .loop .next) (at .loop .now)
     (c .before .before .before .before .before .before .loop-test .taken)
     (goes (c .before .before .before .before))
     (c .before .before .before .read-at .ensures)
@@ -110,7 +109,7 @@ returns-3 : tie.Need-returns-3 Inv-loop μ-loop
 returns-3 c =
     let at = c .before .before .before .before .before .before .before in
     let start = at .before .before .before in
-    look-finds (at .loop .fields) (start .args .last) (freeMarks (marks (start .args .used .now))) (start .args .closed) (start .args .bytes .now) (at .loop .next) (at .loop .now)
+    look-finds (at .loop .fields) (start .args .last) (freeIn (start .args .n) (start .args .used .now)) (start .args .closed) (start .args .bytes .now) (at .loop .next) (at .loop .now)
     (c .before .before .before .before .before .before .loop-test .taken)
     (goes (c .before .before .before .before))
     (c .before .before .before .read-at .ensures)
@@ -124,7 +123,7 @@ loop-again-2 : tie.Need-loop-again-2 Inv-loop μ-loop
 loop-again-2 c =
     let at = c .before .before .before .before .before in
     let start = at .before .before .before in
-    let free = freeMarks (marks (start .args .used .now)) in
+    let free = freeIn (start .args .n) (start .args .used .now) in
     let keys = c .match .keys4 in (
       omega arith,
       sym (stood-out (start .args .last) free (start .args .closed) (start .args .bytes .now) (at .loop .next) (at .loop .now))
@@ -142,7 +141,7 @@ returns-4 : tie.Need-returns-4 Inv-loop μ-loop
 returns-4 c =
     let at = c .before in
     let start = at .before .before .before in
-    let free = freeMarks (marks (start .args .used .now)) in
+    let free = freeIn (start .args .n) (start .args .used .now) in
     let none : at .loop .fields ≡ 0 = omega (arith, c .loop-test .left) in
     stood-out (start .args .last) free (start .args .closed) (start .args .bytes .now) (at .loop .next) (at .loop .now)
     ∙ ap (λ (n : ℕ). stood n (start .args .last) free (start .args .closed) (start .args .bytes .now) (at .loop .next) (at .loop .now)) (sym none)
@@ -164,7 +163,7 @@ stand-behind-spec =
     loop-again
     enum-told-2
     free-records-requires
-    cast-t34
+    cast-t36
     returns-2
     enum-known-field
     returns-3

@@ -1,78 +1,40 @@
--- `worker::first_free` meets its contract. The loop's invariant: the search from the given mark on is the search from the present one on. Assumes nothing.
-use Prim.Native.Nat.{_-_, _≤_}
-use mathlib.Core.Path.{_≡_, sym, ap, _∙_}
+-- `worker::first_free` meets its contract: `free-at`, or `free-nowhere` where the first mark that is off is no record's. Assumes nothing.
+use Prim.Native.Nat.{ℕ, suc}
+use mathlib.Core.Path.{sym, ap, _∙_}
 use native.Mathlib.Omega.{arith}
 use native.Mathlib.Numerals.{add-one}
 use borrow.Author.Needs.{needs}
-use borrow.Author.Tests.{not-true, not-false}
-use lib.ListN.{length}
 use Rattle.tables.specs.Lie.{recordNumber}
-use Rattle.worker.specs.Raw.{freeFrom}
-use Rattle.worker.proofs.Free.{free-here, free-later, free-nowhere}
+use Rattle.worker.proofs.Free.{free-at, free-nowhere}
 use Rattle.worker.proofs.first_free.Statement.{statement}
 use Rattle.worker.proofs.first_free.Tie as tie
 
-abbrev Inv-loop : tie.InvT-loop
-Inv-loop used from i₀ i = (i ≤ length used) × (freeFrom used from ≡ freeFrom used i)
+first-off-requires : tie.Need-first-off-requires
+first-off-requires c κs = search needs
 
-abbrev μ-loop : tie.MeasureT-loop
-μ-loop used from i₀ i = length used - i
+wide-requires : tie.Need-wide-requires
+wide-requires c κs = search needs
 
-full-before-requires : tie.Need-full-before-requires Inv-loop μ-loop
-full-before-requires c κs = search needs
+cast-t7 : tie.Need-cast-t7
+cast-t7 c = search needs
 
-loop-holds : tie.Need-loop-holds Inv-loop μ-loop
-loop-holds c = c .full-before .ensures
+add-t8 : tie.Need-add-t8
+add-t8 c = search needs
 
-is-on-requires : tie.Need-is-on-requires Inv-loop μ-loop
-is-on-requires c κs = search needs
-
-cast-t7 : tie.Need-cast-t7 Inv-loop μ-loop
-cast-t7 c = omega arith
-
-add-t8 : tie.Need-add-t8 Inv-loop μ-loop
-add-t8 c = omega arith
-
-returns : tie.Need-returns Inv-loop μ-loop
+returns : tie.Need-returns
 returns c =
-    let used = c .before .before .before .before .before .before .args .used .now in
-    let i = c .before .before .before .loop .i in
-    ap recordNumber (add-one i)
-    ∙ sym (c .before .before .before .loop .inv .1 ∙ free-here used i (omega arith) (sym (c .before .is-on .ensures) ∙ not-true _ (c .if1 .taken)))
+    let start = c .before .before .before .before in
+    let off = c .before .before .first-off in
+    ap recordNumber (add-one (off .result) ∙ ap (λ (n : ℕ). suc n) (off .ensures))
+    ∙ sym (free-at (start .args .n) (start .args .used .now) (start .args .from) (omega (arith, start .pre .1)) (start .pre .2) (omega (arith, off .ensures, c .before .wide .ensures)))
 
-add-i : tie.Need-add-i Inv-loop μ-loop
-add-i c = search needs
-
-loop-less : tie.Need-loop-less Inv-loop μ-loop
-loop-less c = omega arith
-
-loop-again : tie.Need-loop-again Inv-loop μ-loop
-loop-again c =
-    let used = c .before .before .before .before .before .before .args .used .now in
-    let i = c .before .before .before .loop .i in (
-      omega arith,
-      c .before .before .before .loop .inv .1
-          ∙ free-later used i (omega arith) (sym (c .before .is-on .ensures) ∙ not-false _ (c .if1 .left))
-          ∙ ap (freeFrom used) (sym (add-one i)),
-    )
-
-returns-2 : tie.Need-returns-2 Inv-loop μ-loop
+returns-2 : tie.Need-returns-2
 returns-2 c =
-    sym (c .before .loop .inv .1 ∙ free-nowhere (c .before .before .before .before .args .used .now) (c .before .loop .i) (omega arith))
+    let start = c .before .before .before .before in
+    sym
+    (free-nowhere (start .args .n) (start .args .used .now) (start .args .from) (omega (arith, start .pre .1)) (start .pre .2)
+    (omega (arith, c .before .before .first-off .ensures, c .before .wide .ensures)))
 
 pub first-free-spec : {M : Type 1} → statement M
 first-free-spec =
-    tie.close
-    (tie.spec
-    Inv-loop
-    μ-loop
-    full-before-requires
-    loop-holds
-    is-on-requires
-    cast-t7
-    add-t8
-    returns
-    add-i
-    loop-less
-    loop-again
-    returns-2)
+    tie.close (tie.spec first-off-requires wide-requires cast-t7 add-t8 returns returns-2)

@@ -4,7 +4,8 @@ use mathlib.Core.Path.{_≡_, sym, ap, _∙_}
 use native.Mathlib.Omega.{arith}
 use lib.ListN.{getD, set}
 use Rattle.tables.specs.Tables.{Tables, putHeld, putValues}
-use Rattle.tables.specs.Lie.{isOn, recordNumber}
+use Rattle.tables.specs.Bits.{markAt}
+use Rattle.tables.specs.Lie.{recordNumber}
 use Rattle.worker.specs.Lent.{storesOn, loggedOn, heldAfter, linkTaken}
 use Rattle.worker.proofs.Events.{register-low}
 use Rattle.worker.proofs.Store.{room-stands}
@@ -54,8 +55,8 @@ logged-requires c κs =
     let known = start read .pre .0 .2 in
     let worker = start read .pre .1 in
     let inside = start read .pre .3 in
-    let mark : marked .is-on .result ≡ isOn (getD (at .changed .now) (at .l .0) 0) =
-    marked .is-on .ensures ∙ ap (λ (i : ℕ). isOn (getD (at .changed .now) i 0)) (read .wide .ensures) in
+    let mark : marked .is-on .result ≡ markAt (at .changed .now) (at .l .0) =
+    marked .is-on .ensures ∙ ap (markAt (at .changed .now)) (read .wide .ensures) in
     record {
       sizes = known .sizes;
       worker = worker;

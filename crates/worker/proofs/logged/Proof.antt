@@ -1,11 +1,13 @@
 -- `worker::logged` meets its contract: where the mark is on nothing changes, else the entry goes behind the last, where there is room. Assumes nothing.
 use Prim.Native.Nat.{ℕ, _+_, _*_, _<_}
 use mathlib.Core.Path.{_≡_, refl, sym, ap, _∙_}
+use mathlib.Core.Bool.{true}
 use native.Mathlib.Omega.{arith}
 use lib.ListN.{length, getD, set, length-set}
 use denote.Ref.{at-last}
 use Rattle.rules.specs.Size.{links}
 use Rattle.laws.proofs.Number.{links-most}
+use Rattle.tables.specs.Bits.{marked}
 use Rattle.tables.specs.Lie.{room}
 use Rattle.worker.specs.Lent.{logsOn, loggedOn}
 use borrow.Author.Needs.{needs}
@@ -96,7 +98,7 @@ returns-2 c t =
     rw (sym (start .pre .mark) ∙ tested .if1 .left)
     (λ j.
     logsOn
-    (at-last (at .changed) ((c .before .before .set-mark .ensures ∙ ap (λ (i : ℕ). set (at .changed .now) i 1) link) j))
+    (at-last (at .changed) ((c .before .before .set-mark .ensures ∙ ap (λ (i : ℕ). marked (at .changed .now) i true) link) j))
     (at-last (at .logs) (set (set (at .logs .now) (place j) (at .l .0)) (place j + 1) (at .old .0)))
     (at-last (at .lengths) (set (at .lengths .now) (at .w) (getD (at .lengths .now) (at .w) 0 + 1)))
     t)

@@ -5,7 +5,7 @@ use mathlib.Core.Bool.{true, _&&_}
 use native.Mathlib.Omega.{arith}
 use borrow.Author.Tests.{not-true, not-false}
 use denote.Ref.{at-last}
-use lib.ListN.{length, set, length-set}
+use lib.ListN.{set, length-set}
 use Rattle.rules.specs.declared.RecordNumber.{RecordNumber}
 use Rattle.rules.specs.declared.Event.the-variants.{Make}
 use Rattle.rules.specs.declared.Answer.the-variants.{Made}
@@ -13,6 +13,7 @@ use Rattle.rules.specs.declared.Collector.{Collector}
 use Rattle.rules.specs.Worker.{chosen}
 use Rattle.rules.specs.Outcome.{hasWorker, hasRegister, refusals}
 use Rattle.tables.specs.Tables.{Tables}
+use Rattle.tables.specs.Bits.{marked}
 use Rattle.tables.specs.Lie.{poolOf}
 use Rattle.tables.specs.Known.{Known}
 use Rattle.laws.proofs.Number.{bounds}
@@ -67,8 +68,7 @@ chosen-requires c κs =
     let at = c .before .before in
     let start = at .before .before .before .before .before .before .before in
     let known = start .pre .2 in
-    let most : length (start .args .used .now) ≡ start .args .s .n = known .exact .used in
-    (omega (arith, most, bounds (start .args .s) (known .sizes) .n-most), omega (arith, most, last-low known (at .last-place .result) (at .last-place .ensures)))
+    (bounds (start .args .s) (known .sizes) .n-most, known .exact .used, last-low known (at .last-place .result) (at .last-place .ensures))
 
 -- what the search found, in every pool in whose tables those at hand lie
 picked : (c : tie.After-chosen) → let at = start c .args in
@@ -156,7 +156,7 @@ returns-3 c t k known =
     ∙ ap (λ (x : RecordNumber). record {
       answer = Made x;
       collector = k;
-      tables = makesOn (at-last (at .used) (set (at .used .now) (x .0 - 1) 1)) (at-last (at .makers) (set (at .makers .now) (x .0 - 1) (at .w + 1))) (at-last (at .registers) (set (set (at .registers .now) (at .s .w * at .s .r) (x .0)) (at .w * at .s .r + at .r) (x .0))) t;
+      tables = makesOn (at-last (at .used) (marked (at .used .now) (x .0 - 1) true)) (at-last (at .makers) (set (at .makers .now) (x .0 - 1) (at .w + 1))) (at-last (at .registers) (set (set (at .registers .now) (at .s .w * at .s .r) (x .0)) (at .w * at .s .r + at .r) (x .0))) t;
     }) a
     ∙ (λ j.
     let x = found .chosen .result in
@@ -164,7 +164,7 @@ returns-3 c t k known =
     record {
       answer = Made x;
       collector = k;
-      tables = makesOn (at-last (at .used) ((ap (λ (i : ℕ). set (at .used .now) i 1) (sym (place .ensures)) ∙ sym (c .before .before .before .set-mark .ensures)) j)) (at-last (at .makers) (set (at .makers .now) record-at (at .w + 1))) (at-last (at .registers) (set (set (at .registers .now) (sym (last .ensures) j) (x .0)) (sym (c .register-place .ensures .0) j) (x .0))) t;
+      tables = makesOn (at-last (at .used) ((ap (λ (i : ℕ). marked (at .used .now) i true) (sym (place .ensures)) ∙ sym (c .before .before .before .set-mark .ensures)) j)) (at-last (at .makers) (set (at .makers .now) record-at (at .w + 1))) (at-last (at .registers) (set (set (at .registers .now) (sym (last .ensures) j) (x .0)) (sym (c .register-place .ensures .0) j) (x .0))) t;
     })
 
 pub makes-spec : {M : Type 1} → statement M

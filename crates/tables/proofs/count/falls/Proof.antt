@@ -1,11 +1,13 @@
 -- `tables::count::falls` meets its contract. Of none nothing changes; the count of another stands at its place. Assumes nothing.
 use Prim.Native.Nat.{_-_, _≤_}
 use mathlib.Core.Path.{_≡_, refl, _∙_}
+use mathlib.Core.Bool.{true}
 use native.Mathlib.Omega.{arith}
-use lib.ListN.{getD}
+use lib.ListN.{length, getD}
 use Rattle.rules.specs.Pool.{ofRecord}
 use Rattle.tables.specs.Counted.{fewer, fallen}
-use Rattle.tables.proofs.Counted.{number-here, marked-here, changed-here, fallen-on, fallen-off}
+use Rattle.tables.proofs.Packed.{mark-inside, mark-place}
+use Rattle.tables.proofs.Counted.{number-here, changed-here, fallen-on, fallen-off}
 use borrow.Author.Needs.{needs}
 use Rattle.tables.proofs.count.falls.Statement.{statement}
 use Rattle.tables.proofs.count.falls.Tie as tie
@@ -37,7 +39,9 @@ slice-write-counts : tie.Need-slice-write-counts
 slice-write-counts c = search needs
 
 set-mark-requires : tie.Need-set-mark-requires
-set-mark-requires c κs = search needs
+set-mark-requires c κs =
+    let start = c .before .before .before .before .before .before .before .before in
+    mark-inside (length (start .args .counts .now)) (length (start .args .candidates .now)) _ (start .pre .1) (omega arith)
 
 same-length : tie.Need-same-length
 same-length c = search needs
@@ -57,7 +61,7 @@ returns-2 c =
     let here : getD counts (place .result) 0 ≡ ofRecord counts a 0 = number-here counts a (place .result) some (place .ensures) in (
       changed-here counts (λ n. n - 1) a (place .result) some (place .ensures),
       c .before .before .set-mark .ensures
-          ∙ marked-here candidates a (place .result) 1 some (place .ensures)
+          ∙ mark-place candidates a (place .result) true some (place .ensures)
           ∙ fallen-on a counts candidates (omega (arith, here)),
     )
 
