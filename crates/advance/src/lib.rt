@@ -4,6 +4,8 @@
 //     move_on                                the record that is lent moves on
 //     onward                                 the same for a step, which has the record by value
 //     stepped                                the answer of a step that freed nothing
+#![tactic(auto)]
+
 ghost use Rattle.std.specs.Prelude.{◌≡◌, ◌≤◌, List, length};
 ghost use Rattle.rules.specs.Pool.{Entry};
 ghost use Rattle.rules.specs.Collect.{phase_after, next_closed};

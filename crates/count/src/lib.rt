@@ -1,6 +1,8 @@
 // Phase 5 of the collector, on the tables that it touches, of a pool that is known to be sound. All of it is inner (decision 4 of docs/DECISIONS.md).
 //     counts                             the step; each function has the name of its definition in rules/specs
 //     view_value, look_up, find          the view value of a link, and the look-up in the logs
+#![tactic(auto)]
+
 ghost use Rattle.std.specs.Prelude.{◌≡◌, true, ℕ, ◌*◌, ◌≤◌, ◌<◌, length};
 ghost use Rattle.rules.specs.Size.{links};
 ghost use Rattle.rules.specs.View.{times, old_in, look_up, view_value};
@@ -19,7 +21,7 @@ use tables::mark::is_on;
 use tables::place::{log_place, wide};
 
 // What a log says of a link.
-#[derive(Drop)]
+#[derive(Clone, Copy)]
 enum Found {
     Old(RecordNumber),
     Nothing,

@@ -9,6 +9,8 @@
 //     tally_step              the numbers of the open cycle after an event
 //     net_of, closed_cycle    the numbers of the cycle that closes
 //     put_cycle, put_closed   these, in a slice
+#![tactic(auto)]
+
 ghost use Rattle.std.specs.Prelude.{◌≡◌, ◌+◌, ◌≤◌, length};
 ghost use Rattle.cycles.specs.Cycles.{freed_by, sum, less};
 ghost use Rattle.cycles.specs.Tally.{taken_at, closed_as, Few, Sums, Steps};
@@ -17,7 +19,7 @@ ghost use Rattle.cycles.specs.Slice.{put_at, closed_now, Puts, Counts};
 use rules::Answer;
 
 // "`taken` and the entries moved into the history, `freed` and the records freed, `net` and the sum of all counts at the close less that sum at the opening".
-#[derive(Drop)]
+#[derive(Clone, Copy)]
 pub struct Cycle {
     pub taken: u64,
     pub freed: u64,
@@ -25,14 +27,14 @@ pub struct Cycle {
 }
 
 // The sum of all counts at the opening of the open cycle, and what was taken and freed since then. They mean nothing where no cycle is open.
-#[derive(Drop)]
+#[derive(Clone, Copy)]
 pub struct Tally {
     pub opening: u32,
     pub taken: u64,
     pub freed: u64,
 }
 
-#[derive(Drop)]
+#[derive(Clone, Copy)]
 pub struct Tallied {
     pub tally: Tally,
     pub cycles: usize,

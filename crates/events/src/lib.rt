@@ -2,6 +2,8 @@
 // tables is `pool::event`.
 //     event_known    one event
 //     collects       one collect event: the step of its phase
+#![tactic(auto)]
+
 ghost use Rattle.std.specs.Prelude.{◌≡◌};
 ghost use Rattle.tables.specs.Tables.{lent};
 ghost use Rattle.tables.specs.Known.{Known};

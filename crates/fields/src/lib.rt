@@ -4,6 +4,8 @@
 //     read_at            the field reader. It takes any bytes, any place and any state of the reader
 //     event_size         where an event stands, for whoever reads events one after another
 // Below these: payload_of, payload_for, is_misplaced, two_at, four_at, board_at, sizes_at, event_at, which read a field's parts; take_field and read_field, which read a field.
+#![tactic(auto)]
+
 ghost use Rattle.std.specs.Prelude.{◌≡◌, ◌+◌, ◌≤◌, ◌<◌, length};
 ghost use Rattle.fields.specs.Field.{two_at, four_at, payload_of, payload_for, payload_at, board_at, sizes_at, event_at, misplaced, refused_at, WholeAt, taken_or_not, field_at, read_at, EventSized};
 
@@ -11,7 +13,7 @@ use rules::{Event, Refusal, Sizes};
 use tables::place::in_range;
 
 // What may come next in a trace.
-#[derive(Drop)]
+#[derive(Clone, Copy)]
 pub enum Stage {
     // The sizes: "first field not the sizes" is refused.
     First,
@@ -22,14 +24,14 @@ pub enum Stage {
 }
 
 // What the fields before say of the next one: what it may be, and the last step number, 0 where there was no event.
-#[derive(Drop)]
+#[derive(Clone, Copy)]
 pub struct Reader {
     pub stage: Stage,
     pub step: u32,
 }
 
 // What stands at a place of a trace.
-#[derive(Drop)]
+#[derive(Clone, Copy)]
 pub enum Field {
     Sizes(Sizes),
     // A step number and its event.
@@ -42,7 +44,7 @@ pub enum Field {
 }
 
 // What stands at a place, the place behind it, and what may come there. Behind a refusal, and where nothing stands, both are as they were.
-#[derive(Drop)]
+#[derive(Clone, Copy)]
 pub struct Read {
     pub field: Field,
     pub next: usize,

@@ -2,6 +2,8 @@
 //     fresh             makes lent tables a fresh pool
 //     free_records      how many records are free
 // Inner: is_exact and has_shape, the tests of sizes and lengths.
+#![tactic(auto)]
+
 ghost use Rattle.std.specs.Prelude.{◌≡◌};
 ghost use Rattle.tables.specs.Tables.{lent};
 ghost use Rattle.fresh.specs.Fits.{is_exact, fits};

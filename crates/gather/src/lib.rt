@@ -2,6 +2,8 @@
 // docs/DECISIONS.md).
 //     opens, snoops, takes, clears, scans    the steps; each has the name of its definition in rules/specs/Collect.antt
 //     made_by, clear_maker, held_by          what phases 2 and 4 do to the records
+#![tactic(auto)]
+
 ghost use Rattle.std.specs.Prelude.{◌≡◌, ◌+◌, ◌*◌, ◌≤◌, length};
 ghost use Rattle.rules.specs.Sound.{Each};
 ghost use Rattle.tables.specs.Bits.{word_count, with_standing};

@@ -3,13 +3,15 @@
 //     read_behind    a read behind what is left
 //     keep_rest      what is left of a part becomes the beginning of the next one
 //     read_again     a read that is tried again where it was interrupted or would have had to wait
+#![tactic(auto)]
+
 ghost use Rattle.std.specs.Prelude.{◌≤◌, length};
 ghost use Rattle.input.specs.Input.{Reads, Keeps};
 
 use libc::STDIN_FILENO;
 
 // What a read brought: whether it did not fail, and how many bytes there are now.
-#[derive(Drop)]
+#[derive(Clone, Copy)]
 pub struct Got {
     pub is_read: bool,
     pub n: usize,

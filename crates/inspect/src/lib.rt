@@ -12,6 +12,8 @@
 //     tally_link, tally_fours, tally_links       how many links count for each record
 //     counts_match                               each count against the tally of its record
 //     numbers_fit, links_fit                     the parts of the check
+#![tactic(auto)]
+
 ghost use Rattle.std.specs.Prelude.{◌≡◌, true, ◌&&◌, ℕ, ◌+◌, ◌*◌, ◌%◌, ◌≤◌, ◌<◌, leb, length, get_or, drop, replicate};
 ghost use mathlib.Core.List.{List, map, flatten};
 ghost use Rattle.rules.specs.Size.{in_range, links};

@@ -4,6 +4,8 @@
 //     join       the call. It takes any bytes, any table of lengths and any output
 // Inner: end_to_end, which asks whether the parts lie in the slice; next_part, measure, which merge without writing; put_end, write_joined, which merge and write;
 // check_end, check_events, check_part, check, refuse, which read part by part and say why parts are refused that do not merge.
+#![tactic(auto)]
+
 ghost use Rattle.std.specs.Prelude.{◌≡◌, true, List, ℕ, ◌+◌, ◌≤◌, ◌<◌, length, get_or};
 ghost use Rattle.text.specs.Text.{Written};
 ghost use Rattle.join.specs.Part.{Part, whole, number_at, expected, events_told, part_told, parts_told};
@@ -16,28 +18,28 @@ use rules::{Refusal, Sizes};
 use text::put_bytes;
 
 // What the call answers: the length of the joined trace, or why it is refused and where.
-#[derive(Drop)]
+#[derive(Clone, Copy)]
 pub enum Joined {
     Length(usize),
     Refused(Refusal, usize),
 }
 
 // What the check of a part, or of all, has seen: whether their sizes are those of the first part; or why they are refused and where.
-#[derive(Drop)]
+#[derive(Clone, Copy)]
 pub enum Seen {
     Whole(bool),
     Refused(Refusal, usize),
 }
 
 // The part whose next event has the step number that is looked for, and how long its field is; 0 where there is none.
-#[derive(Drop)]
+#[derive(Clone, Copy)]
 pub struct Next {
     pub part: usize,
     pub size: usize,
 }
 
 // What a merge without writing comes to: whether the parts are whole, have the same sizes and the numbers 1 to n; and then how long the event fields are.
-#[derive(Drop)]
+#[derive(Clone, Copy)]
 pub struct Merged {
     pub whole: bool,
     pub size: usize,

@@ -1,6 +1,8 @@
 // Many events at once on lent tables: a caller with many events pays for the check once.
 //     many_events     the events that stand one after another in a byte string, as a trace has them
 // Inner: rest_of, what stands behind them.
+#![tactic(auto)]
+
 ghost use Rattle.std.specs.Prelude.{◌≡◌};
 ghost use Rattle.tables.specs.Tables.{lent};
 ghost use Rattle.many.specs.Many.{rest_at, many_on};
@@ -12,14 +14,14 @@ use rules::{Collector, Refusal, Sizes};
 use trace::{Ran, run_events};
 
 // What stands behind the events that were done: no byte more, or a field that is no event, with its number and place. 1 and 2 have the place 0.
-#[derive(Drop)]
+#[derive(Clone, Copy)]
 pub enum Rest {
     Nothing,
     Stopped(Refusal, usize),
 }
 
 // What the call answers: that, the place behind the events, the last step number, how many they were, and the collector's record.
-#[derive(Drop)]
+#[derive(Clone, Copy)]
 pub struct Many {
     pub rest: Rest,
     pub ran: Ran,

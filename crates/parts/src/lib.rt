@@ -11,6 +11,8 @@
 //     begin_first    what comes first in a trace
 //     is_small       the sizes that the program takes
 //     stops          a part that stops at the first field
+#![tactic(auto)]
+
 ghost use Rattle.std.specs.Prelude.{◌≡◌, true, ◌≤◌, length, take};
 ghost use Rattle.tables.specs.Bits.{word_count};
 ghost use Rattle.tables.specs.Tables.{Tables, lent};
@@ -32,7 +34,7 @@ use text::{put_end, put_lines, put_refused};
 use trace::{Ending, Ran, Stand, run_events, stand_behind};
 
 // What may come next, the pool's sizes and the collector's record. The last two mean nothing before the first field.
-#[derive(Drop)]
+#[derive(Clone, Copy)]
 pub struct Progress {
     pub reader: Reader,
     pub sizes: Sizes,
@@ -40,7 +42,7 @@ pub struct Progress {
 }
 
 // How the trace stands behind the part, the place of the first byte that is still needed, how many events the part had, and what is kept.
-#[derive(Drop)]
+#[derive(Clone, Copy)]
 pub struct Part {
     pub stand: Stand,
     pub next: usize,
@@ -49,14 +51,14 @@ pub struct Part {
 }
 
 // How a part begins: with the events from a place on, and what is kept of the pool that they are done on; or no event is done.
-#[derive(Drop)]
+#[derive(Clone, Copy)]
 pub enum Begun {
     Goes(Progress, usize),
     Stays(Part),
 }
 
 // A part, and how long the text of its lines is.
-#[derive(Drop)]
+#[derive(Clone, Copy)]
 pub struct PartText {
     pub part: Part,
     pub size: usize,

@@ -2,6 +2,8 @@
 // and any event, and its contract is one equation that gives its answer, the collector's record and every table entry after it.
 //     event             one event: checks the pool, then does the event
 //     sound             whether the tables are of a sound pool
+#![tactic(auto)]
+
 ghost use Rattle.std.specs.Prelude.{◌≡◌, ◌&&◌};
 ghost use Rattle.tables.specs.Tables.{lent};
 ghost use Rattle.clauses.specs.IsSound.{is_sound};

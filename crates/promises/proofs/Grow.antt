@@ -24,7 +24,7 @@ use Rattle.laws.proofs.Lists.{Each-map}
 use Rattle.laws.proofs.Marks.{on_some, falls_cases}
 use Rattle.promises.proofs.Invariant.{Used, Kept, by_held, by_maker, by_board, by_view, Since, Named, Phased, snoops_in}
 
-pub kept_grows : {s : Sizes} {a : RecordNumber} (p q : Pool)
+pub kept_grows : {s : Sizes} (p q : Pool) {a : RecordNumber}
     → ((b : RecordNumber) → held_at p b ≡ true → held_at q b ≡ true)
     → ((b : RecordNumber) → 1 ≤ maker_at p b → 1 ≤ maker_at q b)
     → ((l : LinkNumber) → view_value q l ≡ view_value p l)

@@ -68,7 +68,7 @@ module _ {s : Sizes} {p : Pool} (sound : Sound s p) (state : State s p) where
       by_mark_of false off = by-its-view (view_unmarked p l off)
 
   -- all workers are scanned, so that what a register holds is kept, and what a board entry or a kept record's link holds is a view value or stands under a mark
-  reached_kept : p.collector.phase ≡ 6 → {a : RecordNumber} (w : ℕ) → Reaches s p w a → Kept s p a
+  reached_kept : p.collector.phase ≡ 6 → (w : ℕ) {a : RecordNumber} → Reaches s p w a → Kept s p a
   reached_kept e w (holds {a = a} r h some) = ⊎_elim inside beyond (below_or_not w s.w)
     where
       inside : w < s.w → Kept s p a

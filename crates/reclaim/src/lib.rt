@@ -5,6 +5,8 @@
 //     unchanged                   whether what it finds is freed
 //     frees, empties              freeing, and emptying the unchanged links
 //     closes                      the close
+#![tactic(auto)]
+
 ghost use Rattle.std.specs.Prelude.{◌≡◌, false, ℕ, ◌+◌, ◌-◌, ◌*◌, ◌≤◌, ◌<◌, length, get_or, replicate};
 ghost use Rattle.rules.specs.Size.{links, link_number};
 ghost use Rattle.rules.specs.Collect.{unchanged as unchangedIn, has_child, reclaimed as reclaimedIn, empties as emptiesIn, frees as freesIn};

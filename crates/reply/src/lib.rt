@@ -2,11 +2,14 @@
 // docs/DECISIONS.md), and takes any answer.
 //     refusal_number           the number of a refusal
 //     number_of, value_of      the number and the value of an answer
+#![tactic(auto)]
+
 ghost use Rattle.std.specs.Prelude.{◌≡◌};
 ghost use Rattle.rules.specs.Reply.{refusal_number, number, value};
 
 use rules::{Answer, Refusal};
 
+#[tactic(auto, unfolding(rules::specs::Reply::refusal_number))]
 pub fn refusal_number(why: Refusal) -> u16
     ensures { result ≡ refusal_number why }
 {
@@ -29,6 +32,7 @@ pub fn refusal_number(why: Refusal) -> u16
     }
 }
 
+#[tactic(auto, unfolding(rules::specs::Reply::number))]
 pub fn number_of(answer: Answer) -> u16
     ensures { result ≡ number answer }
 {
@@ -45,6 +49,7 @@ pub fn number_of(answer: Answer) -> u16
     }
 }
 
+#[tactic(auto, unfolding(rules::specs::Reply::value))]
 pub fn value_of(answer: Answer) -> u16
     ensures { result ≡ value answer }
 {

@@ -5,6 +5,8 @@
 //     say_unended   the turns have run out
 // What is printed for the bytes that were read is `report_parts` of reports/specs/Printed.antt, a turn for each piece: what `report_text` puts into the buffer, and behind the
 // last part what `put_ending` does. docs/DECISIONS.md says how far a theorem reaches here.
+#![tactic(auto)]
+
 ghost use Rattle.std.specs.Prelude.{◌≤◌, length};
 ghost use Rattle.input.specs.Input.{Reads};
 

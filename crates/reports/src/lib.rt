@@ -3,6 +3,8 @@
 //     ReportText     what a part answers, the numbers of the open cycle, how many have closed, and how long the text of its cycles is
 //     report_text    a part, which begins where the one before left off, and the text of its cycles
 //     tally_front    the events of a part
+#![tactic(auto)]
+
 ghost use Rattle.std.specs.Prelude.{◌≡◌, true, ◌≤◌};
 ghost use Rattle.tables.specs.Tables.{lent};
 ghost use Rattle.tables.specs.Known.{Known};
@@ -21,7 +23,7 @@ use rules::{Collector, Sizes};
 use tally::{Told, tally_events};
 use text::cycle::put_cycles;
 
-#[derive(Drop)]
+#[derive(Clone, Copy)]
 pub struct ReportText {
     pub part: Part,
     pub tally: Tally,

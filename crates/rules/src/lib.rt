@@ -8,10 +8,11 @@
 //     Collector      the collector's own record
 //     Answered       an answer, together with the collector's record after it
 // What they mean stands in specs/; the numbers that an answer stands for are in specs/Reply.antt.
+#![tactic(auto)]
 
 // "N records 1..1024, K links in each 1..8, W workers 1..8, R registers per worker 1..16." "Add B entries, 0 to 16, of one record number each" (document 02,
 // request 5): the board.
-#[derive(Drop)]
+#[derive(Clone, Copy)]
 pub struct Sizes {
     pub n: u16,
     pub k: u16,
@@ -22,15 +23,15 @@ pub struct Sizes {
 
 // "Record numbers and link numbers are counted separately and never stand for one another." The one way from a record to a link is the
 // link-number formula, `link_number` of specs/Size.antt, and the one way from a board entry to a link is `board_number` there.
-#[derive(Drop)]
+#[derive(Clone, Copy)]
 pub struct RecordNumber(pub u16);
 
-#[derive(Drop)]
+#[derive(Clone, Copy)]
 pub struct LinkNumber(pub u16);
 
 // The letters are document 01's: w a worker, r and q registers of it, f a link of the record in q; e is a board entry (document 02, request 5). Each is one byte, as
 // in a trace.
-#[derive(Drop)]
+#[derive(Clone, Copy)]
 pub enum Event {
     Make { w: u8, r: u8 },
     Move { w: u8, r: u8, q: u8 },
@@ -42,7 +43,7 @@ pub enum Event {
     Collect,
 }
 
-#[derive(Drop)]
+#[derive(Clone, Copy)]
 pub enum Refusal {
     // 1: a size is out of its range, or a lent table has another length.
     WrongSize,
@@ -77,7 +78,7 @@ pub enum Refusal {
     OutputShort,
 }
 
-#[derive(Drop)]
+#[derive(Clone, Copy)]
 pub enum Answer {
     // An accepted sizes field made the pool fresh.
     Fresh,
@@ -100,7 +101,7 @@ pub enum Answer {
 }
 
 // "The collector's phase, position and closed-cycle number form one record that each step moves on."
-#[derive(Drop)]
+#[derive(Clone, Copy)]
 pub struct Collector {
     pub phase: u16,
     pub position: u16,
@@ -108,7 +109,7 @@ pub struct Collector {
 }
 
 // What a call on a pool answers: the event's answer, and the collector's record after it, which lives in no table.
-#[derive(Drop)]
+#[derive(Clone, Copy)]
 pub struct Answered {
     pub answer: Answer,
     pub collector: Collector,

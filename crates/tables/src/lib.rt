@@ -4,6 +4,8 @@
 //     flag     one flag of a table of flags
 //     list     numbers of a table: set to 0, copied to another
 //     count    a record's count, that falls or rises
+#![tactic(auto)]
+
 pub mod count;
 pub mod flag;
 pub mod list;

@@ -2,6 +2,8 @@
 //     report_trace    a whole trace: the call
 // Inner (decision 4 of docs/DECISIONS.md): tally_events, the events that stand one after another in a trace; unreported, a report of no event; report_sized, a trace
 // behind its sizes field.
+#![tactic(auto)]
+
 ghost use Rattle.std.specs.Prelude.{◌≡◌, true};
 ghost use Rattle.rules.specs.Size.{in_range};
 ghost use Rattle.tables.specs.Tables.{lent};
@@ -18,14 +20,14 @@ use rules::{Answer, Collector, Refusal, Sizes};
 use trace::{Ending, Ran, Replay, ending_of, stand_behind};
 
 // What doing the events of a stretch answers, the numbers of the open cycle, and how many have closed.
-#[derive(Drop)]
+#[derive(Clone, Copy)]
 pub struct Told {
     pub ran: Ran,
     pub tallied: Tallied,
 }
 
 // What a whole trace answers: what its replay does, and how many cycles have closed.
-#[derive(Drop)]
+#[derive(Clone, Copy)]
 pub struct Report {
     pub replay: Replay,
     pub cycles: usize,

@@ -5,6 +5,8 @@
 //     put_line, put_lines             the line of an event, and the lines of many
 //     put_end, put_refused            the two last lines
 //     cycle                           the lines of cycles
+#![tactic(auto)]
+
 pub mod cycle;
 
 ghost use Rattle.std.specs.Prelude.{◌≡◌, ◌++◌, ◌+◌, ◌*◌, ◌≤◌, ◌<◌, length};

@@ -2,6 +2,8 @@
 //     replay_trace    a whole trace: starts fresh, and checks nothing again
 // Inner (decision 4 of docs/DECISIONS.md): run_events, the events that stand one after another in a trace; stand_behind, how the trace stands behind them;
 // ending_of, how a whole trace ends; replay_sized, a trace behind its sizes field.
+#![tactic(auto)]
+
 ghost use Rattle.std.specs.Prelude.{◌≡◌, true};
 ghost use Rattle.rules.specs.Size.{in_range};
 ghost use Rattle.tables.specs.Tables.{lent};
@@ -18,14 +20,14 @@ use reply::{number_of, value_of};
 use rules::{Answer, Collector, Refusal, Sizes};
 
 // How a replay ended: the whole trace, with how many records are free and the closed-cycle number; or where it stopped, and why.
-#[derive(Drop)]
+#[derive(Clone, Copy)]
 pub enum Ending {
     Whole(u16, u16),
     Stopped(Refusal, usize),
 }
 
 // What doing the events of a stretch answers: the place behind them, the last step number, how many they are, and the collector's record.
-#[derive(Drop)]
+#[derive(Clone, Copy)]
 pub struct Ran {
     pub next: usize,
     pub step: u32,
@@ -34,7 +36,7 @@ pub struct Ran {
 }
 
 // What a whole trace answers: how it ended, how many events it had, and the collector's record.
-#[derive(Drop)]
+#[derive(Clone, Copy)]
 pub struct Replay {
     pub ending: Ending,
     pub events: usize,
@@ -42,14 +44,14 @@ pub struct Replay {
 }
 
 // How a trace stands behind its events, of which a part has been read: more has to be read, or it has ended.
-#[derive(Drop)]
+#[derive(Clone, Copy)]
 pub enum Stand {
     Waits,
     Ended(Ending),
 }
 
 // That, the place of the first byte that is still needed, and what may come there.
-#[derive(Drop)]
+#[derive(Clone, Copy)]
 pub struct Stood {
     pub stand: Stand,
     pub next: usize,

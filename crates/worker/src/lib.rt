@@ -7,6 +7,8 @@
 //     register_takes                                      what load and look do: a register takes what a link holds
 //     link_takes                                          what store and post do: a link takes what a register holds
 //     logged, snooped                                     the parts of it that may or may not happen
+#![tactic(auto)]
+
 ghost use Rattle.std.specs.Prelude.{◌≡◌, ◌+◌, ◌*◌, ◌≤◌, ◌<◌, length, get_or, set};
 ghost use Rattle.rules.specs.Size.{links};
 ghost use Rattle.rules.specs.Pool.{Pool};

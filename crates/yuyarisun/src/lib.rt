@@ -8,6 +8,8 @@
 //     yuyarisun_join                                                          parts of a trace, joined
 //     yuyarisun_inner_event                                                   inner: an event on a pool that is known to be sound; in no header
 // Inner: one_event, event_of, rest_number, rest_place, ending_number, ending_place, ending_free, joined_number, joined_length, joined_place.
+#![tactic(auto)]
+
 ghost use Rattle.std.specs.Prelude.{◌≡◌, ◌&&◌};
 ghost use Rattle.tables.specs.Tables.{lent};
 ghost use Rattle.fresh.specs.Free.{free_in};

@@ -1,0 +1,15 @@
+-- The loop of `count_sum`.
+use Prim.Native.Nat.{suc, ◌+◌, ◌-◌, ◌*◌, ◌≤◌}
+use mathlib.Core.Path.{◌≡◌, ap}
+use native.Mathlib.Omega.{arith}
+use native.Mathlib.Numerals.{add-one}
+use borrow.Author.Rules.{rules}
+use lib.ListN.{length}
+use Rattle.cycles.proofs.Sum.{sum_from, sum_here, sum_end}
+use Rattle.cycles.proofs.count_sum.Given as goal
+
+abbrev pub invariant-loop-i : goal.invariant-loop-i
+invariant-loop-i l = (l.i ≤ length l.counts) × (l.all ≤ l.i * 65535) × (l.all + sum_from l.counts l.i ≡ sum_from l.counts 0)
+
+abbrev pub decreases-loop-i : goal.decreases-loop-i
+decreases-loop-i l = length l.counts - l.i

@@ -1,0 +1,8 @@
+-- `cycles::tally_event` meets its contract: the numbers after the event, and the cycle that closes with it. Assumes nothing.
+use borrow.Author.Rules.{rules}
+use Rattle.cycles.proofs.tally_event.Goals as goal
+
+pub put_closed-cycles-requires : goal.put_closed-cycles-requires
+put_closed-cycles-requires c =
+    let start = c in
+    (start.requires.counts_len_bound, (c.tally_step-tally.ensures.few 4294967295 start.requires.few.0, start.requires.few.1.1))

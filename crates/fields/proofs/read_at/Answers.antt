@@ -1,0 +1,32 @@
+-- `fields::read_at` meets its contract: behind the end field a byte is one too many, and before it a field is read. Assumes nothing.
+use mathlib.Core.Path.{◌∙◌}
+use mathlib.Core.Bool.{true, false}
+use mathlib.Core.List.{[], ◌∷◌}
+use borrow.Author.Rules.{rules}
+use borrow.Author.Tests.{lt-ltb, le-ltb}
+use lib.ListN.{length}
+use types.Run.{miss}
+use Rattle.fields.proofs.Order.{before_end, behind_end_lem}
+use Rattle.fields.proofs.read_at.Goals as goal
+
+pub returns-then-place-bytes : goal.returns-then-place-bytes
+returns-then-place-bytes c =
+    let at = c.args in
+    c.refused_at.ensures
+    ∙ behind_end_lem at.bytes.now at.place at.reader true
+    c.enum_told-1.given.1
+    (lt-ltb at.place (length at.bytes.now) c.if-place-bytes.true)
+
+pub returns-in-Ended : goal.returns-in-Ended
+returns-in-Ended c =
+    let at = c.args in
+    behind_end_lem at.bytes.now at.place at.reader false
+    c.enum_told-1.given.1
+    (le-ltb at.place (length at.bytes.now) c.if-place-bytes.false)
+
+pub returns : goal.returns
+returns c =
+    let at = c.args in
+    c.read_field.ensures
+    ∙ before_end at.bytes.now at.place at.reader
+    (λ e. miss (0 ∷ 1 ∷ []) 2 tt (rw e at c.in_default.keys2))

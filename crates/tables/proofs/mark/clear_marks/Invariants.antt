@@ -1,0 +1,16 @@
+-- The loop of `mark.clear_marks`.
+use Prim.Native.Nat.{ℕ, ◌≤◌, ◌-◌}
+use mathlib.Core.Path.{◌≡◌, ap, ◌∙◌}
+use mathlib.Core.List.{List, ◌++◌, append-nil}
+use lib.Seq.{drop-length}
+use native.Mathlib.Omega.{arith}
+use lib.ListN.{length, drop, set, replicate, length-set}
+use borrow.Author.Rules.{rules}
+use borrow.Author.Fill.{fill_more}
+use Rattle.tables.proofs.mark.clear_marks.Given as goal
+
+abbrev pub invariant-loop-i : goal.invariant-loop-i
+invariant-loop-i l = (l.i ≤ length l.initial.words) × (length l.words ≡ length l.initial.words) × (l.words ≡ replicate l.i 0 ++ drop l.i l.initial.words)
+
+abbrev pub decreases-loop-i : goal.decreases-loop-i
+decreases-loop-i l = length l.initial.words - l.i

@@ -1,0 +1,15 @@
+-- The loop of `decimal_places`.
+use Prim.Native.Nat.{ℕ, suc, ◌-◌, ◌^◌, ◌≤◌}
+use mathlib.Core.Path.{◌≡◌, refl}
+use native.Mathlib.Omega.{arith}
+use lib.ListN.{length}
+use Rattle.text.specs.Text.{decimal}
+use Rattle.text.proofs.Digits.{decimal_most, decimal_least, decimal_some, power_some}
+use Rattle.text.proofs.decimal_places.Given as goal
+
+abbrev pub invariant-loop-power : goal.invariant-loop-power
+invariant-loop-power l =
+    (l.places ≤ length (decimal l.n)) × (m : ℕ) × (l.places ≡ suc m) × (l.power ≡ 10 ^ m)
+
+abbrev pub decreases-loop-power : goal.decreases-loop-power
+decreases-loop-power l = l.n - l.power
