@@ -72,7 +72,7 @@ fn view_value(
     l: LinkNumber,
 ) -> RecordNumber
     requires { (l.0 < links s) × (length values.now ≡ links s) × (length changed.now ≡ word_count (links s)) × (mark_at changed.now l.0 ≡ true → OneEntry s logs.now lengths.now l) }
-    ensures { (t : Tables) (c : Collector) → result ≡ view_value (pool_of s (views_on values.entry changed.entry logs.entry lengths.entry t) c) l }
+    ensures { (t : Tables) (c : Collector) → result ≡ view_value (pool_of s (views_on values.now changed.now logs.now lengths.now t) c) l }
 {
     let link = wide(l.0);
     if is_on(changed, link) {
@@ -94,9 +94,9 @@ pub fn counts(
     lengths: &mut [u16],
     c: Collector,
 ) -> Answered
-    requires { InPhase 5 s (counts_on counts candidates values changed logs history lengths) c }
-    ensures { Steps 5 s (counts_on counts.entry candidates.entry values.entry changed.entry logs.entry history.entry lengths.entry) c result
-        (counts_on counts.exit candidates.exit values.entry changed.entry logs.entry history.exit lengths.exit) }
+    requires { InPhase 5 s (counts_on counts.old candidates.old values.now changed.now logs.now history.old lengths.old) c }
+    ensures { Steps 5 s (counts_on counts.old candidates.old values.now changed.now logs.now history.old lengths.old) c result
+        (counts_on counts.new candidates.new values.now changed.now logs.now history.new lengths.new) }
 {
     let last = wide(s.w);
     let n = lengths[last];

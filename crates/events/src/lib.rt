@@ -32,9 +32,9 @@ fn collects(
     lengths: &mut [u16],
     c: Collector,
 ) -> Answered
-    requires { Known s (lent used counts held candidates makers values changed registers snoops logs history lengths) c }
-    ensures { event_on s (lent used.entry counts.entry held.entry candidates.entry makers.entry values.entry changed.entry registers.entry snoops.entry logs.entry history.entry lengths.entry) c Event.Collect
-        ≡ record { answer = result.answer; collector = result.collector; tables = lent used.exit counts.exit held.exit candidates.exit makers.exit values.exit changed.exit registers.exit snoops.exit logs.exit history.exit lengths.exit } }
+    requires { Known s (lent used.old counts.old held.old candidates.old makers.old values.old changed.old registers.old snoops.old logs.old history.old lengths.old) c }
+    ensures { event_on s (lent used.old counts.old held.old candidates.old makers.old values.old changed.old registers.old snoops.old logs.old history.old lengths.old) c Event.Collect
+        ≡ record { answer = result.answer; collector = result.collector; tables = lent used.new counts.new held.new candidates.new makers.new values.new changed.new registers.new snoops.new logs.new history.new lengths.new } }
 {
     let phase = c.phase;
     match phase {
@@ -68,9 +68,9 @@ pub fn event_known(
     c: Collector,
     e: Event,
 ) -> Answered
-    requires { Known s (lent used counts held candidates makers values changed registers snoops logs history lengths) c }
-    ensures { event_on s (lent used.entry counts.entry held.entry candidates.entry makers.entry values.entry changed.entry registers.entry snoops.entry logs.entry history.entry lengths.entry) c e
-        ≡ record { answer = result.answer; collector = result.collector; tables = lent used.exit counts.exit held.exit candidates.exit makers.exit values.exit changed.exit registers.exit snoops.exit logs.exit history.exit lengths.exit } }
+    requires { Known s (lent used.old counts.old held.old candidates.old makers.old values.old changed.old registers.old snoops.old logs.old history.old lengths.old) c }
+    ensures { event_on s (lent used.old counts.old held.old candidates.old makers.old values.old changed.old registers.old snoops.old logs.old history.old lengths.old) c e
+        ≡ record { answer = result.answer; collector = result.collector; tables = lent used.new counts.new held.new candidates.new makers.new values.new changed.new registers.new snoops.new logs.new history.new lengths.new } }
 {
     match e {
         Event::Make { w, r } => Answered {

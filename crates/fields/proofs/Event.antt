@@ -28,7 +28,7 @@ use Rattle.fields.proofs.Taken.{read_holds}
 pub record Says (bytes : List ℕ) (place step : ℕ) : Type 0 where
   pub begins : place + 3 ≤ length bytes
   pub known : payload_of (byte_at bytes place) ≡ 0 → ⊥
-  pub no_sizes_lem : byte_at bytes place ≡ sizes_tag → ⊥
+  pub no_sizes : byte_at bytes place ≡ sizes_tag → ⊥
   pub no_end : byte_at bytes place ≡ end_tag → ⊥
   pub long : two_at bytes (place + 1) ≡ payload_of (byte_at bytes place)
   pub whole : place + 3 + payload_of (byte_at bytes place) ≤ length bytes
@@ -64,7 +64,7 @@ module _ (bytes : List ℕ) (place step : ℕ) where
           record {
             begins = ltb-false (length bytes) (place + 3) passed.0;
             known = eqb-false (payload_of tag) 0 (or_left _ (eqb tag sizes_tag) passed.1.0);
-            no_sizes_lem = eqb-false tag sizes_tag isSizes;
+            no_sizes = eqb-false tag sizes_tag isSizes;
             no_end = eqb-false tag end_tag isEnd;
             long = eqb-true (two_at bytes (place + 1)) (payload_at bytes place) (not-false _ passed.1.1.0) ∙ same;
             whole = omega (arith, ltb-false (length bytes) (place + 3 + payload_at bytes place) passed.1.1.1.0, same);
@@ -92,13 +92,13 @@ module _ (bytes : List ℕ) (place step : ℕ) where
       let from : place + 7 ≡ place + 3 + 4 = omega arith in
       sym
       (ap behind on
-      ∙ event_read_lem bytes place reader false says_so says.no-sizes (sym says.next) says.no_end (ap (event_at tag bytes) from)
+      ∙ event_read_lem bytes place reader false says_so says.no_sizes (sym says.next) says.no_end (ap (event_at tag bytes) from)
       (ap not (eq-eqb (step + 1) (step + 1) refl))
       ∙ payload_whole head (omega (arith, length-is, says.whole))
       ∙ before_end bytes place reader (λ e. let z : ◌≡◌ {A = ℕ} 0 1 = cc in omega arith))
     where
       says_so : payload ≡ payload_at bytes place
-      says_so = length-is ∙ sym (other_payload tag (two_at bytes (place + 1)) says.no-sizes)
+      says_so = length-is ∙ sym (other_payload tag (two_at bytes (place + 1)) says.no_sizes)
 
       head : Headed bytes place reader payload
       head =
@@ -106,7 +106,7 @@ module _ (bytes : List ℕ) (place step : ℕ) where
             begins = says.begins;
             says = says_so;
             known = says.known;
-            placed = ne_eqb tag sizes_tag says.no-sizes;
+            placed = ne_eqb tag sizes_tag says.no_sizes;
             long = says.long ∙ sym length-is;
           }
 

@@ -31,7 +31,7 @@ fn is_exact(
     history: &[u16],
     lengths: &[u16],
 ) -> bool
-    ensures { result ≡ is_exact s (lent used.entry counts.entry held.entry candidates.entry makers.entry values.entry changed.entry registers.entry snoops.entry logs.entry history.entry lengths.entry) }
+    ensures { result ≡ is_exact s (lent used.now counts.now held.now candidates.now makers.now values.now changed.now registers.now snoops.now logs.now history.now lengths.now) }
 {
     let records = s.n as usize;
     let links = (s.n as usize) * (s.k as usize) + (s.b as usize);
@@ -69,7 +69,7 @@ pub fn has_shape(
     history: &[u16],
     lengths: &[u16],
 ) -> bool
-    ensures { result ≡ fits s (lent used.entry counts.entry held.entry candidates.entry makers.entry values.entry changed.entry registers.entry snoops.entry logs.entry history.entry lengths.entry) }
+    ensures { result ≡ fits s (lent used.now counts.now held.now candidates.now makers.now values.now changed.now registers.now snoops.now logs.now history.now lengths.now) }
 {
     in_range(s)
         & is_exact(
@@ -96,8 +96,8 @@ pub fn fresh(
     lengths: &mut [u16],
     c: Collector,
 ) -> Answered
-    ensures { made_fresh s (lent used.entry counts.entry held.entry candidates.entry makers.entry values.entry changed.entry registers.entry snoops.entry logs.entry history.entry lengths.entry) c
-        ≡ record { answer = result.answer; collector = result.collector; tables = lent used.exit counts.exit held.exit candidates.exit makers.exit values.exit changed.exit registers.exit snoops.exit logs.exit history.exit lengths.exit } }
+    ensures { made_fresh s (lent used.old counts.old held.old candidates.old makers.old values.old changed.old registers.old snoops.old logs.old history.old lengths.old) c
+        ≡ record { answer = result.answer; collector = result.collector; tables = lent used.new counts.new held.new candidates.new makers.new values.new changed.new registers.new snoops.new logs.new history.new lengths.new } }
 {
     if !has_shape(
         s, used, counts, held, candidates, makers, values, changed, registers, snoops, logs,

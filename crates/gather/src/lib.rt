@@ -28,8 +28,8 @@ pub fn opens(s: Sizes, c: Collector) -> Answered
 
 // "Phase 1: snoop flag on for the worker at the position."
 pub fn snoops(s: Sizes, snoops: &mut [u16], lengths: &[u16], c: Collector) -> Answered
-    requires { InPhase 1 s (snoops_on snoops lengths) c }
-    ensures { Steps 1 s (snoops_on snoops.entry lengths.entry) c result (snoops_on snoops.exit lengths.entry) }
+    requires { InPhase 1 s (snoops_on snoops.old lengths.now) c }
+    ensures { Steps 1 s (snoops_on snoops.old lengths.now) c result (snoops_on snoops.new lengths.now) }
 {
     set_flag(snoops, wide(c.position), true);
     let entries = lengths[wide(s.w)];
@@ -70,9 +70,9 @@ pub fn takes(
     lengths: &mut [u16],
     c: Collector,
 ) -> Answered
-    requires { InPhase 2 s (takes_on candidates makers logs history lengths) c }
-    ensures { Steps 2 s (takes_on candidates.entry makers.entry logs.entry history.entry lengths.entry) c result
-        (takes_on candidates.exit makers.exit logs.exit history.exit lengths.exit) }
+    requires { InPhase 2 s (takes_on candidates.old makers.old logs.old history.old lengths.old) c }
+    ensures { Steps 2 s (takes_on candidates.old makers.old logs.old history.old lengths.old) c result
+        (takes_on candidates.new makers.new logs.new history.new lengths.new) }
 {
     let w = c.position;
     let worker = wide(w);
@@ -97,8 +97,8 @@ pub fn clears(
     lengths: &[u16],
     c: Collector,
 ) -> Answered
-    requires { InPhase 3 s (clears_on changed history lengths) c }
-    ensures { Steps 3 s (clears_on changed.entry history.entry lengths.entry) c result (clears_on changed.exit history.entry lengths.entry) }
+    requires { InPhase 3 s (clears_on changed.old history.now lengths.now) c }
+    ensures { Steps 3 s (clears_on changed.old history.now lengths.now) c result (clears_on changed.new history.now lengths.now) }
 {
     let entries = lengths[wide(s.w)];
     let at = wide(c.position) * 2;
@@ -131,9 +131,9 @@ pub fn scans(
     lengths: &[u16],
     c: Collector,
 ) -> Answered
-    requires { InPhase 4 s (scans_on held registers snoops lengths) c }
-    ensures { Steps 4 s (scans_on held.entry registers.entry snoops.entry lengths.entry) c result
-        (scans_on held.exit registers.entry snoops.exit lengths.entry) }
+    requires { InPhase 4 s (scans_on held.old registers.now snoops.old lengths.now) c }
+    ensures { Steps 4 s (scans_on held.old registers.now snoops.old lengths.now) c result
+        (scans_on held.new registers.now snoops.new lengths.now) }
 {
     let w = c.position;
     set_flag(snoops, wide(w), false);

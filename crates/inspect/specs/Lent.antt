@@ -5,7 +5,6 @@
 --     Fits, LinksToFit       what the part on links asks: exact lengths, list lengths at most S, and a collector's record that fits
 -- Assumes nothing.
 use Rattle.std.specs.Prelude.{ℕ, ◌%◌, ◌≤◌, ◌≡◌, Bool, true, ◌&&◌, List, eqb, leb, ltb, get_or}
-use Rattle.std.specs.Borrow.{Bor}
 use Rattle.rules.specs.declared.Sizes.{Sizes}
 use Rattle.rules.specs.declared.Collector.{Collector}
 use Rattle.rules.specs.Size.{in_range, links}
@@ -16,13 +15,13 @@ use Rattle.tables.specs.Tables.{Tables, put_used, put_counts, put_held, put_cand
 use Rattle.tables.specs.Known.{Exact}
 use Rattle.clauses.specs.Inspected.{phase_fits}
 
-abbrev pub numbers_on : (used held candidates makers registers snoops : Bor (List ℕ)) → Tables → Tables
+abbrev pub numbers_on : (used held candidates makers registers snoops : List ℕ) → Tables → Tables
 numbers_on used held candidates makers registers snoops t =
-    put_used used.now (put_held held.now (put_candidates candidates.now (put_makers makers.now (put_registers registers.now (put_snoops snoops.now t)))))
+    put_used used (put_held held (put_candidates candidates (put_makers makers (put_registers registers (put_snoops snoops t)))))
 
-abbrev pub links_on : (counts values changed logs history lengths : Bor (List ℕ)) → Tables → Tables
+abbrev pub links_on : (counts values changed logs history lengths : List ℕ) → Tables → Tables
 links_on counts values changed logs history lengths t =
-    put_counts counts.now (put_values values.now (put_changed changed.now (put_logs logs.now (put_history history.now (put_lengths lengths.now t)))))
+    put_counts counts (put_values values (put_changed changed (put_logs logs (put_history history (put_lengths lengths t)))))
 
 -- a changed mark is how often its link stands among the logs and the uncleared history, and no link stands twice in the history
 abbrev pub matches : (changed seen : List ℕ) → ℕ → Bool

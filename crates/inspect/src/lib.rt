@@ -331,7 +331,7 @@ fn numbers_fit(
     snoops: &[u16],
 ) -> bool
     requires { (length used.now ≡ word_count s.n) × (length held.now ≡ word_count s.n) × (length candidates.now ≡ word_count s.n) }
-    ensures { (t : Tables) → result ≡ numbers_fit s (numbers_on used.entry held.entry candidates.entry makers.entry registers.entry snoops.entry t) }
+    ensures { (t : Tables) → result ≡ numbers_fit s (numbers_on used.now held.now candidates.now makers.now registers.now snoops.now t) }
 {
     unused_off(used, s.n)
         & unused_off(held, s.n)
@@ -352,8 +352,8 @@ fn links_fit(
     lengths: &[u16],
     c: Collector,
 ) -> bool
-    requires { LinksToFit s (links_on counts values changed logs history lengths) c }
-    ensures { (t : Tables) → result ≡ links_fit s (links_on counts.entry values.entry changed.entry logs.entry history.entry lengths.entry t) c }
+    requires { LinksToFit s (links_on counts.now values.now changed.now logs.now history.now lengths.now) c }
+    ensures { (t : Tables) → result ≡ links_fit s (links_on counts.now values.now changed.now logs.now history.now lengths.now t) c }
 {
     let links = link_count(s);
     let n = lengths[wide(s.w)];
@@ -400,9 +400,9 @@ pub fn inspect(
     lengths: &[u16],
     c: Collector,
 ) -> bool
-    requires { (in_range s ≡ true) × Exact s (lent used counts held candidates makers values changed registers snoops logs history lengths) }
+    requires { (in_range s ≡ true) × Exact s (lent used.now counts.now held.now candidates.now makers.now values.now changed.now registers.now snoops.now logs.now history.now lengths.now) }
     ensures { result ≡ inspected s
-        (lent used.entry counts.entry held.entry candidates.entry makers.entry values.entry changed.entry registers.entry snoops.entry logs.entry history.entry lengths.entry) c }
+        (lent used.now counts.now held.now candidates.now makers.now values.now changed.now registers.now snoops.now logs.now history.now lengths.now) c }
 {
     if !at_most(lengths, link_count(s)) {
         return false;

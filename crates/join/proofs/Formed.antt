@@ -59,7 +59,7 @@ module _ {a b : List ℕ} {p q size : ℕ} (alike : Alike a p b q size) where
       record {
         begins = omega (arith, alike.inside);
         known = λ none. says.known (sym payload ∙ none);
-        no_sizes_lem = λ e. says.no-sizes (sym tag ∙ e);
+        no_sizes = λ e. says.no_sizes (sym tag ∙ e);
         no_end = λ e. says.no_end (sym tag ∙ e);
         long = two_alike (p + 1) (q + 1) 1 refl refl (omega arith) ∙ says.long ∙ sym payload;
         whole = omega (arith, alike.inside, payload);

@@ -70,8 +70,8 @@ pub fn many_events(
     step: u32,
     answers: &mut [u16],
 ) -> Many
-    ensures { many_on s (lent used.entry counts.entry held.entry candidates.entry makers.entry values.entry changed.entry registers.entry snoops.entry logs.entry history.entry lengths.entry) c bytes.now step answers.old
-        ≡ record { rest = result.rest; ran = result.ran; tables = lent used.exit counts.exit held.exit candidates.exit makers.exit values.exit changed.exit registers.exit snoops.exit logs.exit history.exit lengths.exit; answers = answers.new } }
+    ensures { many_on s (lent used.old counts.old held.old candidates.old makers.old values.old changed.old registers.old snoops.old logs.old history.old lengths.old) c bytes.now step answers.old
+        ≡ record { rest = result.rest; ran = result.ran; tables = lent used.new counts.new held.new candidates.new makers.new values.new changed.new registers.new snoops.new logs.new history.new lengths.new; answers = answers.new } }
 {
     let none = Ran {
         next: 0,

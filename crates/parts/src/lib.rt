@@ -92,14 +92,14 @@ fn run_front(
     step: u32,
     answers: &mut [u16],
 ) -> Ran
-    requires long { Long (lent used counts held candidates makers values changed registers snoops logs history lengths) }
+    requires long { Long (lent used.old counts.old held.old candidates.old makers.old values.old changed.old registers.old snoops.old logs.old history.old lengths.old) }
     requires s_value { is_small s ≡ true }
-    requires known { Known s (front s (lent used counts held candidates makers values changed registers snoops logs history lengths)) c }
+    requires known { Known s (front s (lent used.old counts.old held.old candidates.old makers.old values.old changed.old registers.old snoops.old logs.old history.old lengths.old)) c }
     ensures { Runs
         s
-        (ran_on s (front s (lent used.entry counts.entry held.entry candidates.entry makers.entry values.entry changed.entry registers.entry snoops.entry logs.entry history.entry lengths.entry)) c bytes.now place step answers.old)
+        (ran_on s (front s (lent used.old counts.old held.old candidates.old makers.old values.old changed.old registers.old snoops.old logs.old history.old lengths.old)) c bytes.now place step answers.old)
         result
-        (lent used.exit counts.exit held.exit candidates.exit makers.exit values.exit changed.exit registers.exit snoops.exit logs.exit history.exit lengths.exit)
+        (lent used.new counts.new held.new candidates.new makers.new values.new changed.new registers.new snoops.new logs.new history.new lengths.new)
         answers.new }
 {
     let n = s.n as usize;
@@ -259,13 +259,13 @@ pub fn part_text(
     answers: &mut [u16],
     text: &mut [u8],
 ) -> PartText
-    requires set { Set x (lent used counts held candidates makers values changed registers snoops logs history lengths) }
+    requires set { Set x (lent used.old counts.old held.old candidates.old makers.old values.old changed.old registers.old snoops.old logs.old history.old lengths.old) }
     requires has_room { HasRoom bytes.now answers.old text.old }
     ensures { TextOf
-        (part_taken is_small last bytes.now x.reader (left_in x (lent used.entry counts.entry held.entry candidates.entry makers.entry values.entry changed.entry registers.entry snoops.entry logs.entry history.entry lengths.entry)))
+        (part_taken is_small last bytes.now x.reader (left_in x (lent used.old counts.old held.old candidates.old makers.old values.old changed.old registers.old snoops.old logs.old history.old lengths.old)))
         result.part
         result.size
-        (lent used.exit counts.exit held.exit candidates.exit makers.exit values.exit changed.exit registers.exit snoops.exit logs.exit history.exit lengths.exit)
+        (lent used.new counts.new held.new candidates.new makers.new values.new changed.new registers.new snoops.new logs.new history.new lengths.new)
         text.new }
 {
     let step = x.reader.step;

@@ -33,7 +33,7 @@ pub fn sound(
     lengths: &[u16],
     c: Collector,
 ) -> bool
-    ensures { result ≡ (fits s (lent used.entry counts.entry held.entry candidates.entry makers.entry values.entry changed.entry registers.entry snoops.entry logs.entry history.entry lengths.entry) && is_sound s (lent used.entry counts.entry held.entry candidates.entry makers.entry values.entry changed.entry registers.entry snoops.entry logs.entry history.entry lengths.entry) c) }
+    ensures { result ≡ (fits s (lent used.now counts.now held.now candidates.now makers.now values.now changed.now registers.now snoops.now logs.now history.now lengths.now) && is_sound s (lent used.now counts.now held.now candidates.now makers.now values.now changed.now registers.now snoops.now logs.now history.now lengths.now) c) }
 {
     if !has_shape(
         s, used, counts, held, candidates, makers, values, changed, registers, snoops, logs,
@@ -67,8 +67,8 @@ pub fn event(
     c: Collector,
     e: Event,
 ) -> Answered
-    ensures { called s (lent used.entry counts.entry held.entry candidates.entry makers.entry values.entry changed.entry registers.entry snoops.entry logs.entry history.entry lengths.entry) c e
-        ≡ record { answer = result.answer; collector = result.collector; tables = lent used.exit counts.exit held.exit candidates.exit makers.exit values.exit changed.exit registers.exit snoops.exit logs.exit history.exit lengths.exit } }
+    ensures { called s (lent used.old counts.old held.old candidates.old makers.old values.old changed.old registers.old snoops.old logs.old history.old lengths.old) c e
+        ≡ record { answer = result.answer; collector = result.collector; tables = lent used.new counts.new held.new candidates.new makers.new values.new changed.new registers.new snoops.new logs.new history.new lengths.new } }
 {
     if !has_shape(
         s, used, counts, held, candidates, makers, values, changed, registers, snoops, logs,

@@ -4,7 +4,6 @@
 --     InPool, Freeable, Has, Leaves   what emptying the links of a record and freeing it ask, and what they do
 -- Assumes nothing.
 use Rattle.std.specs.Prelude.{ℕ, ◌≤◌, ◌≡◌, true, List}
-use Rattle.std.specs.Borrow.{Bor}
 use Rattle.rules.specs.declared.Sizes.{Sizes}
 use Rattle.rules.specs.declared.RecordNumber.{RecordNumber}
 use Rattle.rules.specs.declared.Collector.{Collector}
@@ -15,20 +14,20 @@ use Rattle.tables.specs.Tables.{Tables, put_used, put_counts, put_held, put_cand
 use Rattle.tables.specs.Lie.{pool_of, tables_of}
 use Rattle.tables.specs.Known.{Known}
 
-abbrev pub marks_on : (changed : Bor (List ℕ)) → Tables → Tables
-marks_on changed t = put_changed changed.now t
+abbrev pub marks_on : (changed : List ℕ) → Tables → Tables
+marks_on changed t = put_changed changed t
 
-abbrev pub links_on : (values changed : Bor (List ℕ)) → Tables → Tables
-links_on values changed t = put_values values.now (marks_on changed t)
+abbrev pub links_on : (values changed : List ℕ) → Tables → Tables
+links_on values changed t = put_values values (marks_on changed t)
 
-abbrev pub empties_on : (counts candidates values changed : Bor (List ℕ)) → Tables → Tables
-empties_on counts candidates values changed t = put_counts counts.now (put_candidates candidates.now (links_on values changed t))
+abbrev pub empties_on : (counts candidates values changed : List ℕ) → Tables → Tables
+empties_on counts candidates values changed t = put_counts counts (put_candidates candidates (links_on values changed t))
 
-abbrev pub frees_on : (used counts candidates values changed : Bor (List ℕ)) → Tables → Tables
-frees_on used counts candidates values changed t = put_used used.now (empties_on counts candidates values changed t)
+abbrev pub frees_on : (used counts candidates values changed : List ℕ) → Tables → Tables
+frees_on used counts candidates values changed t = put_used used (empties_on counts candidates values changed t)
 
-abbrev pub reclaims_on : (used counts held candidates values changed : Bor (List ℕ)) → Tables → Tables
-reclaims_on used counts held candidates values changed t = put_held held.now (frees_on used counts candidates values changed t)
+abbrev pub reclaims_on : (used counts held candidates values changed : List ℕ) → Tables → Tables
+reclaims_on used counts held candidates values changed t = put_held held (frees_on used counts candidates values changed t)
 
 pub record RecordOf (s : Sizes) (a : RecordNumber) : Type 0 where
   pub sizes : in_range s ≡ true

@@ -53,7 +53,7 @@ fn passed_over(n: u16, used: &[u64], held: &[u64], candidates: &[u64], a: u16) -
 // "has all changed marks off"
 fn unchanged(s: Sizes, changed: &[u64], a: RecordNumber) -> bool
     requires { RecordOf s a × (length changed.now ≡ word_count (links s)) }
-    ensures { (t : Tables) (c : Collector) → result ≡ unchangedIn s (pool_of s (marks_on changed.entry t) c) a }
+    ensures { (t : Tables) (c : Collector) → result ≡ unchangedIn s (pool_of s (marks_on changed.now t) c) a }
 {
     let mut f = 0;
     while f < s.k {
@@ -76,7 +76,7 @@ fn link_marks(s: Sizes, changed: &[u64], a: RecordNumber) -> u64
 // "has .. an unchanged link that holds a record" (document 02, request 8)
 fn has_child(s: Sizes, values: &[u16], changed: &[u64], a: RecordNumber) -> bool
     requires { RecordOf s a × (length values.now ≡ links s) × (length changed.now ≡ word_count (links s)) }
-    ensures { (t : Tables) (c : Collector) → result ≡ has_child s (pool_of s (links_on values.entry changed.entry t) c) a }
+    ensures { (t : Tables) (c : Collector) → result ≡ has_child s (pool_of s (links_on values.now changed.now t) c) a }
 {
     let end = wide(s.k);
     let from = wide(link_number(s, a, 0).0);
@@ -107,8 +107,8 @@ fn reclaimed(
     values: &[u16],
     changed: &[u64],
 ) -> RecordNumber
-    requires { SomePool s (reclaims_on used counts held candidates values changed) }
-    ensures { ((t : Tables) (c : Collector) → let at : Tables = reclaims_on used.entry counts.entry held.entry candidates.entry values.entry changed.entry t in
+    requires { SomePool s (reclaims_on used.now counts.now held.now candidates.now values.now changed.now) }
+    ensures { ((t : Tables) (c : Collector) → let at : Tables = reclaims_on used.now counts.now held.now candidates.now values.now changed.now t in
         Known s at c → result ≡ reclaimedIn s (pool_of s at c)) }
 {
     let end = wide(s.k);
@@ -148,9 +148,9 @@ fn empties(
     changed: &[u64],
     a: RecordNumber,
 )
-    requires { Has InPool s (empties_on counts candidates values changed) a }
-    ensures { Leaves InPool s (empties_on counts.entry candidates.entry values.entry changed.entry) a (emptiesIn s a)
-        (empties_on counts.exit candidates.exit values.exit changed.entry) }
+    requires { Has InPool s (empties_on counts.old candidates.old values.old changed.now) a }
+    ensures { Leaves InPool s (empties_on counts.old candidates.old values.old changed.now) a (emptiesIn s a)
+        (empties_on counts.new candidates.new values.new changed.now) }
 {
     let mut f = 0;
     while f < s.k {
@@ -175,9 +175,9 @@ fn frees(
     changed: &[u64],
     a: RecordNumber,
 )
-    requires { Has Freeable s (frees_on used counts candidates values changed) a }
-    ensures { Leaves Freeable s (frees_on used.entry counts.entry candidates.entry values.entry changed.entry) a (freesIn s a)
-        (frees_on used.exit counts.exit candidates.exit values.exit changed.entry) }
+    requires { Has Freeable s (frees_on used.old counts.old candidates.old values.old changed.now) a }
+    ensures { Leaves Freeable s (frees_on used.old counts.old candidates.old values.old changed.now) a (freesIn s a)
+        (frees_on used.new counts.new candidates.new values.new changed.now) }
 {
     empties(s, counts, candidates, values, changed, a);
     let place = record_place(a);
@@ -205,9 +205,9 @@ pub fn reclaims(
     changed: &[u64],
     c: Collector,
 ) -> Answered
-    requires { InPhase 6 s (reclaims_on used counts held candidates values changed) c }
-    ensures { Steps 6 s (reclaims_on used.entry counts.entry held.entry candidates.entry values.entry changed.entry) c result
-        (reclaims_on used.exit counts.exit held.exit candidates.exit values.exit changed.entry) }
+    requires { InPhase 6 s (reclaims_on used.old counts.old held.old candidates.old values.old changed.now) c }
+    ensures { Steps 6 s (reclaims_on used.old counts.old held.old candidates.old values.old changed.now) c result
+        (reclaims_on used.new counts.new held.new candidates.new values.new changed.now) }
 {
     let a = reclaimed(s, used, counts, held, candidates, values, changed);
     if a.0 == 0 {

@@ -53,15 +53,15 @@ fn tally_front(
     tally: Tally,
     numbers: &mut [i64],
 ) -> Told
-    requires long { Long (lent used counts held candidates makers values changed registers snoops logs history lengths) }
+    requires long { Long (lent used.old counts.old held.old candidates.old makers.old values.old changed.old registers.old snoops.old logs.old history.old lengths.old) }
     requires s_value { is_small s ≡ true }
-    requires known { Known s (front s (lent used counts held candidates makers values changed registers snoops logs history lengths)) c }
+    requires known { Known s (front s (lent used.old counts.old held.old candidates.old makers.old values.old changed.old registers.old snoops.old logs.old history.old lengths.old)) c }
     requires few { Few step tally }
     ensures { TellsFront
         s
-        (told_on s (front s (lent used.entry counts.entry held.entry candidates.entry makers.entry values.entry changed.entry registers.entry snoops.entry logs.entry history.entry lengths.entry)) c bytes.now place step tally numbers.old)
+        (told_on s (front s (lent used.old counts.old held.old candidates.old makers.old values.old changed.old registers.old snoops.old logs.old history.old lengths.old)) c bytes.now place step tally numbers.old)
         result
-        (lent used.exit counts.exit held.exit candidates.exit makers.exit values.exit changed.exit registers.exit snoops.exit logs.exit history.exit lengths.exit)
+        (lent used.new counts.new held.new candidates.new makers.new values.new changed.new registers.new snoops.new logs.new history.new lengths.new)
         numbers.new }
 {
     let n = s.n as usize;
@@ -118,16 +118,16 @@ pub fn report_text(
     numbers: &mut [i64],
     text: &mut [u8],
 ) -> ReportText
-    requires set { Set x (lent used counts held candidates makers values changed registers snoops logs history lengths) }
+    requires set { Set x (lent used.old counts.old held.old candidates.old makers.old values.old changed.old registers.old snoops.old logs.old history.old lengths.old) }
     requires has_room { HasRoom bytes.now numbers.old text.old }
     requires few { Few x.reader.step tally }
     requires before_le_step { before ≤ x.reader.step }
     ensures { ReportOf
-        (whole_part x (lent used.entry counts.entry held.entry candidates.entry makers.entry values.entry changed.entry registers.entry snoops.entry logs.entry history.entry lengths.entry) last bytes.now)
-        (told_work tally (whole_work x (lent used.entry counts.entry held.entry candidates.entry makers.entry values.entry changed.entry registers.entry snoops.entry logs.entry history.entry lengths.entry) last bytes.now))
+        (whole_part x (lent used.old counts.old held.old candidates.old makers.old values.old changed.old registers.old snoops.old logs.old history.old lengths.old) last bytes.now)
+        (told_work tally (whole_work x (lent used.old counts.old held.old candidates.old makers.old values.old changed.old registers.old snoops.old logs.old history.old lengths.old) last bytes.now))
         before
         result
-        (lent used.exit counts.exit held.exit candidates.exit makers.exit values.exit changed.exit registers.exit snoops.exit logs.exit history.exit lengths.exit)
+        (lent used.new counts.new held.new candidates.new makers.new values.new changed.new registers.new snoops.new logs.new history.new lengths.new)
         text.new }
 {
     let step = x.reader.step;

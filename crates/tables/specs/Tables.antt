@@ -6,7 +6,6 @@
 --     put_used .. put_lengths    tables of which one is another
 -- Assumes nothing.
 use Rattle.std.specs.Prelude.{ℕ, List}
-use Rattle.std.specs.Borrow.{Bor}
 
 pub record Tables : Type 0 where
   -- used, held and candidates: (N + 63) / 64 words, record a at bit a - 1; counts and makers: N, record a at place a - 1
@@ -30,21 +29,21 @@ pub record Tables : Type 0 where
   -- W + 1: the logs' lengths, then the history's
   pub lengths : List ℕ
 
-abbrev pub lent : (used counts held candidates makers values changed registers snoops logs history lengths : Bor (List ℕ)) → Tables
+abbrev pub lent : (used counts held candidates makers values changed registers snoops logs history lengths : List ℕ) → Tables
 lent used counts held candidates makers values changed registers snoops logs history lengths =
     record {
-      used = used.now;
-      counts = counts.now;
-      held = held.now;
-      candidates = candidates.now;
-      makers = makers.now;
-      values = values.now;
-      changed = changed.now;
-      registers = registers.now;
-      snoops = snoops.now;
-      logs = logs.now;
-      history = history.now;
-      lengths = lengths.now;
+      used = used;
+      counts = counts;
+      held = held;
+      candidates = candidates;
+      makers = makers;
+      values = values;
+      changed = changed;
+      registers = registers;
+      snoops = snoops;
+      logs = logs;
+      history = history;
+      lengths = lengths;
     }
 
 -- ---- tables of which one is another

@@ -56,12 +56,12 @@ pub fn tally_events(
     tally: Tally,
     numbers: &mut [i64],
 ) -> Told
-    requires known { Known s (lent used counts held candidates makers values changed registers snoops logs history lengths) c }
+    requires known { Known s (lent used.old counts.old held.old candidates.old makers.old values.old changed.old registers.old snoops.old logs.old history.old lengths.old) c }
     requires few { Few step tally }
     ensures { Tells
-        (told_on s (lent used.entry counts.entry held.entry candidates.entry makers.entry values.entry changed.entry registers.entry snoops.entry logs.entry history.entry lengths.entry) c bytes.now place step tally numbers.old)
+        (told_on s (lent used.old counts.old held.old candidates.old makers.old values.old changed.old registers.old snoops.old logs.old history.old lengths.old) c bytes.now place step tally numbers.old)
         result
-        (lent used.exit counts.exit held.exit candidates.exit makers.exit values.exit changed.exit registers.exit snoops.exit logs.exit history.exit lengths.exit)
+        (lent used.new counts.new held.new candidates.new makers.new values.new changed.new registers.new snoops.new logs.new history.new lengths.new)
         numbers.new }
 {
     let workers = s.w as usize;
@@ -144,8 +144,8 @@ fn report_sized(
     numbers: &mut [i64],
 ) -> Report
     requires { in_range s ≡ true }
-    ensures { report_sized s (lent used.entry counts.entry held.entry candidates.entry makers.entry values.entry changed.entry registers.entry snoops.entry logs.entry history.entry lengths.entry) c bytes.now place numbers.old
-        ≡ record { report = result; tables = lent used.exit counts.exit held.exit candidates.exit makers.exit values.exit changed.exit registers.exit snoops.exit logs.exit history.exit lengths.exit; numbers = numbers.new } }
+    ensures { report_sized s (lent used.old counts.old held.old candidates.old makers.old values.old changed.old registers.old snoops.old logs.old history.old lengths.old) c bytes.now place numbers.old
+        ≡ record { report = result; tables = lent used.new counts.new held.new candidates.new makers.new values.new changed.new registers.new snoops.new logs.new history.new lengths.new; numbers = numbers.new } }
 {
     let made = fresh(
         s, used, counts, held, candidates, makers, values, changed, registers, snoops, logs,
@@ -221,8 +221,8 @@ pub fn report_trace(
     bytes: &[u8],
     numbers: &mut [i64],
 ) -> Report
-    ensures { report_traced (lent used.entry counts.entry held.entry candidates.entry makers.entry values.entry changed.entry registers.entry snoops.entry logs.entry history.entry lengths.entry) c bytes.now numbers.old
-        ≡ record { report = result; tables = lent used.exit counts.exit held.exit candidates.exit makers.exit values.exit changed.exit registers.exit snoops.exit logs.exit history.exit lengths.exit; numbers = numbers.new } }
+    ensures { report_traced (lent used.old counts.old held.old candidates.old makers.old values.old changed.old registers.old snoops.old logs.old history.old lengths.old) c bytes.now numbers.old
+        ≡ record { report = result; tables = lent used.new counts.new held.new candidates.new makers.new values.new changed.new registers.new snoops.new logs.new history.new lengths.new; numbers = numbers.new } }
 {
     let first = read_at(
         bytes,

@@ -80,9 +80,9 @@ pub fn run_events(
     step: u32,
     answers: &mut [u16],
 ) -> Ran
-    requires { Known s (lent used counts held candidates makers values changed registers snoops logs history lengths) c }
-    ensures { ran_on s (lent used.entry counts.entry held.entry candidates.entry makers.entry values.entry changed.entry registers.entry snoops.entry logs.entry history.entry lengths.entry) c bytes.now place step answers.old
-        ≡ record { ran = result; tables = lent used.exit counts.exit held.exit candidates.exit makers.exit values.exit changed.exit registers.exit snoops.exit logs.exit history.exit lengths.exit; answers = answers.new } }
+    requires { Known s (lent used.old counts.old held.old candidates.old makers.old values.old changed.old registers.old snoops.old logs.old history.old lengths.old) c }
+    ensures { ran_on s (lent used.old counts.old held.old candidates.old makers.old values.old changed.old registers.old snoops.old logs.old history.old lengths.old) c bytes.now place step answers.old
+        ≡ record { ran = result; tables = lent used.new counts.new held.new candidates.new makers.new values.new changed.new registers.new snoops.new logs.new history.new lengths.new; answers = answers.new } }
 {
     let room = answers.len() / 2;
     let mut next = place;
@@ -206,8 +206,8 @@ fn replay_sized(
     answers: &mut [u16],
 ) -> Replay
     requires { in_range s ≡ true }
-    ensures { sized s (lent used.entry counts.entry held.entry candidates.entry makers.entry values.entry changed.entry registers.entry snoops.entry logs.entry history.entry lengths.entry) c bytes.now place answers.old
-        ≡ record { replay = result; tables = lent used.exit counts.exit held.exit candidates.exit makers.exit values.exit changed.exit registers.exit snoops.exit logs.exit history.exit lengths.exit; answers = answers.new } }
+    ensures { sized s (lent used.old counts.old held.old candidates.old makers.old values.old changed.old registers.old snoops.old logs.old history.old lengths.old) c bytes.now place answers.old
+        ≡ record { replay = result; tables = lent used.new counts.new held.new candidates.new makers.new values.new changed.new registers.new snoops.new logs.new history.new lengths.new; answers = answers.new } }
 {
     let made = fresh(
         s, used, counts, held, candidates, makers, values, changed, registers, snoops, logs,
@@ -260,8 +260,8 @@ pub fn replay_trace(
     bytes: &[u8],
     answers: &mut [u16],
 ) -> Replay
-    ensures { traced (lent used.entry counts.entry held.entry candidates.entry makers.entry values.entry changed.entry registers.entry snoops.entry logs.entry history.entry lengths.entry) c bytes.now answers.old
-        ≡ record { replay = result; tables = lent used.exit counts.exit held.exit candidates.exit makers.exit values.exit changed.exit registers.exit snoops.exit logs.exit history.exit lengths.exit; answers = answers.new } }
+    ensures { traced (lent used.old counts.old held.old candidates.old makers.old values.old changed.old registers.old snoops.old logs.old history.old lengths.old) c bytes.now answers.old
+        ≡ record { replay = result; tables = lent used.new counts.new held.new candidates.new makers.new values.new changed.new registers.new snoops.new logs.new history.new lengths.new; answers = answers.new } }
 {
     let first = read_at(
         bytes,

@@ -5,7 +5,6 @@
 --     link_taken                              a link takes what a register holds: both, and the value
 -- Assumes nothing.
 use Rattle.std.specs.Prelude.{ℕ, ◌+◌, ◌*◌, ◌<◌, ◌≡◌, Bool, true, false, cond, List, length, get_or, set}
-use Rattle.std.specs.Borrow.{Bor}
 use Rattle.rules.specs.declared.Sizes.{Sizes}
 use Rattle.rules.specs.declared.RecordNumber.{RecordNumber}
 use Rattle.rules.specs.declared.LinkNumber.{LinkNumber}
@@ -14,18 +13,18 @@ use Rattle.tables.specs.Tables.{Tables, put_used, put_held, put_makers, put_valu
 use Rattle.tables.specs.Bits.{mark_at, marked, mark_record}
 use Rattle.tables.specs.Lie.{is_on, record_number, room}
 
-abbrev pub makes_on : (used makers registers : Bor (List ℕ)) → Tables → Tables
-makes_on used makers registers t = put_used used.now (put_makers makers.now (put_registers registers.now t))
+abbrev pub makes_on : (used makers registers : List ℕ) → Tables → Tables
+makes_on used makers registers t = put_used used (put_makers makers (put_registers registers t))
 
-abbrev pub loads_on : (values registers : Bor (List ℕ)) → Tables → Tables
-loads_on values registers t = put_values values.now (put_registers registers.now t)
+abbrev pub loads_on : (values registers : List ℕ) → Tables → Tables
+loads_on values registers t = put_values values (put_registers registers t)
 
-abbrev pub logs_on : (changed logs lengths : Bor (List ℕ)) → Tables → Tables
-logs_on changed logs lengths t = put_changed changed.now (put_logs logs.now (put_lengths lengths.now t))
+abbrev pub logs_on : (changed logs lengths : List ℕ) → Tables → Tables
+logs_on changed logs lengths t = put_changed changed (put_logs logs (put_lengths lengths t))
 
-abbrev pub stores_on : (held values changed registers snoops logs lengths : Bor (List ℕ)) → Tables → Tables
+abbrev pub stores_on : (held values changed registers snoops logs lengths : List ℕ) → Tables → Tables
 stores_on held values changed registers snoops logs lengths t =
-    put_held held.now (put_values values.now (put_registers registers.now (put_snoops snoops.now (logs_on changed logs lengths t))))
+    put_held held (put_values values (put_registers registers (put_snoops snoops (logs_on changed logs lengths t))))
 
 -- what an entry more asks of the tables, and the mark that has been read
 pub record RoomToLog (s : Sizes) (marks table ns : List ℕ) (w : ℕ) (l : LinkNumber) (marked : Bool) : Type 0 where

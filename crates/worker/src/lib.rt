@@ -102,8 +102,8 @@ pub fn makes(
     w: u8,
     r: u8,
 ) -> Answer
-    requires { SomePool s (makes_on used makers registers) }
-    ensures { Answers s (Event.Make w r) (makes_on used.entry makers.entry registers.entry) result (makes_on used.exit makers.exit registers.exit) }
+    requires { SomePool s (makes_on used.old makers.old registers.old) }
+    ensures { Answers s (Event.Make w r) (makes_on used.old makers.old registers.old) result (makes_on used.new makers.new registers.new) }
 {
     let worker = has_worker(s, w);
     let there = has_register(s, r);
@@ -165,7 +165,7 @@ fn register_takes(
     r: u8,
     l: LinkNumber,
 ) -> RecordNumber
-    requires { SomePool s (loads_on values registers) × (w < s.w) × (r < s.r) × (l.0 < links s) }
+    requires { SomePool s (loads_on values.now registers.old) × (w < s.w) × (r < s.r) × (l.0 < links s) }
     ensures { (result ≡ record_number (get_or values.now l.0 0)) × (registers.new ≡ set registers.old (w * s.r + r) (get_or values.now l.0 0)) }
 {
     let link = wide(l.0);
@@ -177,8 +177,8 @@ fn register_takes(
 
 // "load w r q f: register r takes link f of the record in q."
 pub fn loads(s: Sizes, values: &[u16], registers: &mut [u16], w: u8, r: u8, q: u8, f: u8) -> Answer
-    requires { SomePool s (loads_on values registers) }
-    ensures { Answers s (Event.Load w r q f) (loads_on values.entry registers.entry) result (loads_on values.entry registers.exit) }
+    requires { SomePool s (loads_on values.now registers.old) }
+    ensures { Answers s (Event.Load w r q f) (loads_on values.now registers.old) result (loads_on values.now registers.new) }
 {
     let worker = has_worker(s, w);
     let there = has_register(s, q) & has_register(s, r);
@@ -197,8 +197,8 @@ pub fn loads(s: Sizes, values: &[u16], registers: &mut [u16], w: u8, r: u8, q: u
 
 // "15 look w r e .. with the answers .. of load" (document 02, request 5)
 pub fn looks(s: Sizes, values: &[u16], registers: &mut [u16], w: u8, r: u8, e: u8) -> Answer
-    requires { SomePool s (loads_on values registers) }
-    ensures { Answers s (Event.Look w r e) (loads_on values.entry registers.entry) result (loads_on values.entry registers.exit) }
+    requires { SomePool s (loads_on values.now registers.old) }
+    ensures { Answers s (Event.Look w r e) (loads_on values.now registers.old) result (loads_on values.now registers.new) }
 {
     let worker = has_worker(s, w);
     let there = has_register(s, r);
@@ -223,7 +223,7 @@ fn logged(
     marked: bool,
 )
     requires { RoomToLog s changed.old logs.old lengths.old w l marked }
-    ensures { (t : Tables) → logs_on changed.exit logs.exit lengths.exit t ≡ logged_on s w l old (logs_on changed.entry logs.entry lengths.entry t) }
+    ensures { (t : Tables) → logs_on changed.new logs.new lengths.new t ≡ logged_on s w l old (logs_on changed.old logs.old lengths.old t) }
 {
     if marked {
         return;
@@ -268,10 +268,10 @@ fn link_takes(
     l: LinkNumber,
     r: u8,
 ) -> RecordNumber
-    requires { SomePool s (stores_on held values changed registers snoops logs lengths) × (w < s.w) × (r < s.r) × (l.0 < links s) }
+    requires { SomePool s (stores_on held.old values.old changed.old registers.now snoops.now logs.old lengths.old) × (w < s.w) × (r < s.r) × (l.0 < links s) }
     ensures { (result ≡ record_number (get_or values.old l.0 0))
-        × ((t : Tables) → stores_on held.exit values.exit changed.exit registers.entry snoops.entry logs.exit lengths.exit t
-        ≡ link_taken s w l r (stores_on held.entry values.entry changed.entry registers.entry snoops.entry logs.entry lengths.entry t)) }
+        × ((t : Tables) → stores_on held.new values.new changed.new registers.now snoops.now logs.new lengths.new t
+        ≡ link_taken s w l r (stores_on held.old values.old changed.old registers.now snoops.now logs.old lengths.old t)) }
 {
     let link = wide(l.0);
     let old = values[link];
@@ -299,11 +299,11 @@ pub fn stores(
     f: u8,
     r: u8,
 ) -> Answer
-    requires { SomePool s (stores_on held values changed registers snoops logs lengths) }
+    requires { SomePool s (stores_on held.old values.old changed.old registers.now snoops.now logs.old lengths.old) }
     ensures { Answers s (Event.Store w q f r)
-        (stores_on held.entry values.entry changed.entry registers.entry snoops.entry logs.entry lengths.entry)
+        (stores_on held.old values.old changed.old registers.now snoops.now logs.old lengths.old)
         result
-        (stores_on held.exit values.exit changed.exit registers.entry snoops.entry logs.exit lengths.exit) }
+        (stores_on held.new values.new changed.new registers.now snoops.now logs.new lengths.new) }
 {
     let worker = has_worker(s, w);
     let there = has_register(s, q) & has_register(s, r);
@@ -336,11 +336,11 @@ pub fn posts(
     e: u8,
     r: u8,
 ) -> Answer
-    requires { SomePool s (stores_on held values changed registers snoops logs lengths) }
+    requires { SomePool s (stores_on held.old values.old changed.old registers.now snoops.now logs.old lengths.old) }
     ensures { Answers s (Event.Post w e r)
-        (stores_on held.entry values.entry changed.entry registers.entry snoops.entry logs.entry lengths.entry)
+        (stores_on held.old values.old changed.old registers.now snoops.now logs.old lengths.old)
         result
-        (stores_on held.exit values.exit changed.exit registers.entry snoops.entry logs.exit lengths.exit) }
+        (stores_on held.new values.new changed.new registers.now snoops.now logs.new lengths.new) }
 {
     let worker = has_worker(s, w);
     let there = has_register(s, r);

@@ -62,8 +62,8 @@ fn one_event(
     value: &mut u16,
     e: Event,
 ) -> u16
-    ensures { numbers (called (sizes_of n k w r b) (lent used.entry counts.entry held.entry candidates.entry makers.entry values.entry changed.entry registers.entry snoops.entry logs.entry history.entry lengths.entry) (collector_of phase.old position.old closed.old) e)
-        ≡ record { number = result; value = value.new; phase = phase.new; position = position.new; closed = closed.new; tables = lent used.exit counts.exit held.exit candidates.exit makers.exit values.exit changed.exit registers.exit snoops.exit logs.exit history.exit lengths.exit } }
+    ensures { numbers (called (sizes_of n k w r b) (lent used.old counts.old held.old candidates.old makers.old values.old changed.old registers.old snoops.old logs.old history.old lengths.old) (collector_of phase.old position.old closed.old) e)
+        ≡ record { number = result; value = value.new; phase = phase.new; position = position.new; closed = closed.new; tables = lent used.new counts.new held.new candidates.new makers.new values.new changed.new registers.new snoops.new logs.new history.new lengths.new } }
 {
     let s = Sizes { n, k, w, r, b };
     let c = Collector {
@@ -111,8 +111,8 @@ pub extern "C" fn yuyarisun_make(
     worker: u8,
     register: u8,
 ) -> u16
-    ensures { numbers (called (sizes_of n k w r b) (lent used.entry counts.entry held.entry candidates.entry makers.entry values.entry changed.entry registers.entry snoops.entry logs.entry history.entry lengths.entry) (collector_of phase.old position.old closed.old) (Event.Make worker register))
-        ≡ record { number = result; value = value.new; phase = phase.new; position = position.new; closed = closed.new; tables = lent used.exit counts.exit held.exit candidates.exit makers.exit values.exit changed.exit registers.exit snoops.exit logs.exit history.exit lengths.exit } }
+    ensures { numbers (called (sizes_of n k w r b) (lent used.old counts.old held.old candidates.old makers.old values.old changed.old registers.old snoops.old logs.old history.old lengths.old) (collector_of phase.old position.old closed.old) (Event.Make worker register))
+        ≡ record { number = result; value = value.new; phase = phase.new; position = position.new; closed = closed.new; tables = lent used.new counts.new held.new candidates.new makers.new values.new changed.new registers.new snoops.new logs.new history.new lengths.new } }
 {
     one_event(
         n,
@@ -171,8 +171,8 @@ pub extern "C" fn yuyarisun_move(
     register: u8,
     from: u8,
 ) -> u16
-    ensures { numbers (called (sizes_of n k w r b) (lent used.entry counts.entry held.entry candidates.entry makers.entry values.entry changed.entry registers.entry snoops.entry logs.entry history.entry lengths.entry) (collector_of phase.old position.old closed.old) (Event.Move worker register from))
-        ≡ record { number = result; value = value.new; phase = phase.new; position = position.new; closed = closed.new; tables = lent used.exit counts.exit held.exit candidates.exit makers.exit values.exit changed.exit registers.exit snoops.exit logs.exit history.exit lengths.exit } }
+    ensures { numbers (called (sizes_of n k w r b) (lent used.old counts.old held.old candidates.old makers.old values.old changed.old registers.old snoops.old logs.old history.old lengths.old) (collector_of phase.old position.old closed.old) (Event.Move worker register from))
+        ≡ record { number = result; value = value.new; phase = phase.new; position = position.new; closed = closed.new; tables = lent used.new counts.new held.new candidates.new makers.new values.new changed.new registers.new snoops.new logs.new history.new lengths.new } }
 {
     one_event(
         n,
@@ -231,8 +231,8 @@ pub extern "C" fn yuyarisun_drop(
     worker: u8,
     register: u8,
 ) -> u16
-    ensures { numbers (called (sizes_of n k w r b) (lent used.entry counts.entry held.entry candidates.entry makers.entry values.entry changed.entry registers.entry snoops.entry logs.entry history.entry lengths.entry) (collector_of phase.old position.old closed.old) (Event.Drop worker register))
-        ≡ record { number = result; value = value.new; phase = phase.new; position = position.new; closed = closed.new; tables = lent used.exit counts.exit held.exit candidates.exit makers.exit values.exit changed.exit registers.exit snoops.exit logs.exit history.exit lengths.exit } }
+    ensures { numbers (called (sizes_of n k w r b) (lent used.old counts.old held.old candidates.old makers.old values.old changed.old registers.old snoops.old logs.old history.old lengths.old) (collector_of phase.old position.old closed.old) (Event.Drop worker register))
+        ≡ record { number = result; value = value.new; phase = phase.new; position = position.new; closed = closed.new; tables = lent used.new counts.new held.new candidates.new makers.new values.new changed.new registers.new snoops.new logs.new history.new lengths.new } }
 {
     one_event(
         n,
@@ -292,8 +292,8 @@ pub extern "C" fn yuyarisun_load(
     through: u8,
     link: u8,
 ) -> u16
-    ensures { numbers (called (sizes_of n k w r b) (lent used.entry counts.entry held.entry candidates.entry makers.entry values.entry changed.entry registers.entry snoops.entry logs.entry history.entry lengths.entry) (collector_of phase.old position.old closed.old) (Event.Load worker register through link))
-        ≡ record { number = result; value = value.new; phase = phase.new; position = position.new; closed = closed.new; tables = lent used.exit counts.exit held.exit candidates.exit makers.exit values.exit changed.exit registers.exit snoops.exit logs.exit history.exit lengths.exit } }
+    ensures { numbers (called (sizes_of n k w r b) (lent used.old counts.old held.old candidates.old makers.old values.old changed.old registers.old snoops.old logs.old history.old lengths.old) (collector_of phase.old position.old closed.old) (Event.Load worker register through link))
+        ≡ record { number = result; value = value.new; phase = phase.new; position = position.new; closed = closed.new; tables = lent used.new counts.new held.new candidates.new makers.new values.new changed.new registers.new snoops.new logs.new history.new lengths.new } }
 {
     one_event(
         n,
@@ -355,8 +355,8 @@ pub extern "C" fn yuyarisun_store(
     link: u8,
     register: u8,
 ) -> u16
-    ensures { numbers (called (sizes_of n k w r b) (lent used.entry counts.entry held.entry candidates.entry makers.entry values.entry changed.entry registers.entry snoops.entry logs.entry history.entry lengths.entry) (collector_of phase.old position.old closed.old) (Event.Store worker through link register))
-        ≡ record { number = result; value = value.new; phase = phase.new; position = position.new; closed = closed.new; tables = lent used.exit counts.exit held.exit candidates.exit makers.exit values.exit changed.exit registers.exit snoops.exit logs.exit history.exit lengths.exit } }
+    ensures { numbers (called (sizes_of n k w r b) (lent used.old counts.old held.old candidates.old makers.old values.old changed.old registers.old snoops.old logs.old history.old lengths.old) (collector_of phase.old position.old closed.old) (Event.Store worker through link register))
+        ≡ record { number = result; value = value.new; phase = phase.new; position = position.new; closed = closed.new; tables = lent used.new counts.new held.new candidates.new makers.new values.new changed.new registers.new snoops.new logs.new history.new lengths.new } }
 {
     one_event(
         n,
@@ -417,8 +417,8 @@ pub extern "C" fn yuyarisun_look(
     register: u8,
     entry: u8,
 ) -> u16
-    ensures { numbers (called (sizes_of n k w r b) (lent used.entry counts.entry held.entry candidates.entry makers.entry values.entry changed.entry registers.entry snoops.entry logs.entry history.entry lengths.entry) (collector_of phase.old position.old closed.old) (Event.Look worker register entry))
-        ≡ record { number = result; value = value.new; phase = phase.new; position = position.new; closed = closed.new; tables = lent used.exit counts.exit held.exit candidates.exit makers.exit values.exit changed.exit registers.exit snoops.exit logs.exit history.exit lengths.exit } }
+    ensures { numbers (called (sizes_of n k w r b) (lent used.old counts.old held.old candidates.old makers.old values.old changed.old registers.old snoops.old logs.old history.old lengths.old) (collector_of phase.old position.old closed.old) (Event.Look worker register entry))
+        ≡ record { number = result; value = value.new; phase = phase.new; position = position.new; closed = closed.new; tables = lent used.new counts.new held.new candidates.new makers.new values.new changed.new registers.new snoops.new logs.new history.new lengths.new } }
 {
     one_event(
         n,
@@ -478,8 +478,8 @@ pub extern "C" fn yuyarisun_post(
     entry: u8,
     register: u8,
 ) -> u16
-    ensures { numbers (called (sizes_of n k w r b) (lent used.entry counts.entry held.entry candidates.entry makers.entry values.entry changed.entry registers.entry snoops.entry logs.entry history.entry lengths.entry) (collector_of phase.old position.old closed.old) (Event.Post worker entry register))
-        ≡ record { number = result; value = value.new; phase = phase.new; position = position.new; closed = closed.new; tables = lent used.exit counts.exit held.exit candidates.exit makers.exit values.exit changed.exit registers.exit snoops.exit logs.exit history.exit lengths.exit } }
+    ensures { numbers (called (sizes_of n k w r b) (lent used.old counts.old held.old candidates.old makers.old values.old changed.old registers.old snoops.old logs.old history.old lengths.old) (collector_of phase.old position.old closed.old) (Event.Post worker entry register))
+        ≡ record { number = result; value = value.new; phase = phase.new; position = position.new; closed = closed.new; tables = lent used.new counts.new held.new candidates.new makers.new values.new changed.new registers.new snoops.new logs.new history.new lengths.new } }
 {
     one_event(
         n,
@@ -536,8 +536,8 @@ pub extern "C" fn yuyarisun_collect(
     closed: &mut u16,
     value: &mut u16,
 ) -> u16
-    ensures { numbers (called (sizes_of n k w r b) (lent used.entry counts.entry held.entry candidates.entry makers.entry values.entry changed.entry registers.entry snoops.entry logs.entry history.entry lengths.entry) (collector_of phase.old position.old closed.old) Event.Collect)
-        ≡ record { number = result; value = value.new; phase = phase.new; position = position.new; closed = closed.new; tables = lent used.exit counts.exit held.exit candidates.exit makers.exit values.exit changed.exit registers.exit snoops.exit logs.exit history.exit lengths.exit } }
+    ensures { numbers (called (sizes_of n k w r b) (lent used.old counts.old held.old candidates.old makers.old values.old changed.old registers.old snoops.old logs.old history.old lengths.old) (collector_of phase.old position.old closed.old) Event.Collect)
+        ≡ record { number = result; value = value.new; phase = phase.new; position = position.new; closed = closed.new; tables = lent used.new counts.new held.new candidates.new makers.new values.new changed.new registers.new snoops.new logs.new history.new lengths.new } }
 {
     one_event(
         n,
@@ -589,8 +589,8 @@ pub extern "C" fn yuyarisun_fresh(
     position: &mut u16,
     closed: &mut u16,
 ) -> u16
-    ensures { numbers (made_fresh (sizes_of n k w r b) (lent used.entry counts.entry held.entry candidates.entry makers.entry values.entry changed.entry registers.entry snoops.entry logs.entry history.entry lengths.entry) (collector_of phase.old position.old closed.old))
-        ≡ record { number = result; value = 0; phase = phase.new; position = position.new; closed = closed.new; tables = lent used.exit counts.exit held.exit candidates.exit makers.exit values.exit changed.exit registers.exit snoops.exit logs.exit history.exit lengths.exit } }
+    ensures { numbers (made_fresh (sizes_of n k w r b) (lent used.old counts.old held.old candidates.old makers.old values.old changed.old registers.old snoops.old logs.old history.old lengths.old) (collector_of phase.old position.old closed.old))
+        ≡ record { number = result; value = 0; phase = phase.new; position = position.new; closed = closed.new; tables = lent used.new counts.new held.new candidates.new makers.new values.new changed.new registers.new snoops.new logs.new history.new lengths.new } }
 {
     let s = Sizes { n, k, w, r, b };
     let c = Collector {
@@ -634,7 +634,7 @@ pub extern "C" fn yuyarisun_sound(
     position: u16,
     closed: u16,
 ) -> bool
-    ensures { result ≡ (fits (sizes_of n k w r b) (lent used.entry counts.entry held.entry candidates.entry makers.entry values.entry changed.entry registers.entry snoops.entry logs.entry history.entry lengths.entry) && is_sound (sizes_of n k w r b) (lent used.entry counts.entry held.entry candidates.entry makers.entry values.entry changed.entry registers.entry snoops.entry logs.entry history.entry lengths.entry) (collector_of phase position closed)) }
+    ensures { result ≡ (fits (sizes_of n k w r b) (lent used.now counts.now held.now candidates.now makers.now values.now changed.now registers.now snoops.now logs.now history.now lengths.now) && is_sound (sizes_of n k w r b) (lent used.now counts.now held.now candidates.now makers.now values.now changed.now registers.now snoops.now logs.now history.now lengths.now) (collector_of phase position closed)) }
 {
     sound(
         Sizes { n, k, w, r, b },
@@ -722,9 +722,9 @@ pub extern "C" fn yuyarisun_inner_event(
     third: u8,
     fourth: u8,
 ) -> u16
-    requires { Known (sizes_of n k w r b) (lent used counts held candidates makers values changed registers snoops logs history lengths) (collector_of phase.old position.old closed.old) }
-    ensures { numbers (event_on (sizes_of n k w r b) (lent used.entry counts.entry held.entry candidates.entry makers.entry values.entry changed.entry registers.entry snoops.entry logs.entry history.entry lengths.entry) (collector_of phase.old position.old closed.old) (event_of tag first second third fourth))
-        ≡ record { number = result; value = value.new; phase = phase.new; position = position.new; closed = closed.new; tables = lent used.exit counts.exit held.exit candidates.exit makers.exit values.exit changed.exit registers.exit snoops.exit logs.exit history.exit lengths.exit } }
+    requires { Known (sizes_of n k w r b) (lent used.old counts.old held.old candidates.old makers.old values.old changed.old registers.old snoops.old logs.old history.old lengths.old) (collector_of phase.old position.old closed.old) }
+    ensures { numbers (event_on (sizes_of n k w r b) (lent used.old counts.old held.old candidates.old makers.old values.old changed.old registers.old snoops.old logs.old history.old lengths.old) (collector_of phase.old position.old closed.old) (event_of tag first second third fourth))
+        ≡ record { number = result; value = value.new; phase = phase.new; position = position.new; closed = closed.new; tables = lent used.new counts.new held.new candidates.new makers.new values.new changed.new registers.new snoops.new logs.new history.new lengths.new } }
 {
     let s = Sizes { n, k, w, r, b };
     let before = Collector {
@@ -809,8 +809,8 @@ pub extern "C" fn yuyarisun_events(
     events: &mut usize,
     place: &mut usize,
 ) -> u16
-    ensures { many_numbers (many_on (sizes_of n k w r b) (lent used.entry counts.entry held.entry candidates.entry makers.entry values.entry changed.entry registers.entry snoops.entry logs.entry history.entry lengths.entry) (collector_of phase.old position.old closed.old) bytes.now step.old answers.old)
-        ≡ record { number = result; place = place.new; step = step.new; events = events.new; phase = phase.new; position = position.new; closed = closed.new; tables = lent used.exit counts.exit held.exit candidates.exit makers.exit values.exit changed.exit registers.exit snoops.exit logs.exit history.exit lengths.exit; answers = answers.new } }
+    ensures { many_numbers (many_on (sizes_of n k w r b) (lent used.old counts.old held.old candidates.old makers.old values.old changed.old registers.old snoops.old logs.old history.old lengths.old) (collector_of phase.old position.old closed.old) bytes.now step.old answers.old)
+        ≡ record { number = result; place = place.new; step = step.new; events = events.new; phase = phase.new; position = position.new; closed = closed.new; tables = lent used.new counts.new held.new candidates.new makers.new values.new changed.new registers.new snoops.new logs.new history.new lengths.new; answers = answers.new } }
 {
     let s = Sizes { n, k, w, r, b };
     let before = Collector {
@@ -890,8 +890,8 @@ pub extern "C" fn yuyarisun_trace(
     free: &mut u16,
     place: &mut usize,
 ) -> u16
-    ensures { trace_numbers (traced (lent used.entry counts.entry held.entry candidates.entry makers.entry values.entry changed.entry registers.entry snoops.entry logs.entry history.entry lengths.entry) (collector_of phase.old position.old closed.old) bytes.now answers.old)
-        ≡ record { number = result; free = free.new; place = place.new; events = events.new; phase = phase.new; position = position.new; closed = closed.new; tables = lent used.exit counts.exit held.exit candidates.exit makers.exit values.exit changed.exit registers.exit snoops.exit logs.exit history.exit lengths.exit; answers = answers.new } }
+    ensures { trace_numbers (traced (lent used.old counts.old held.old candidates.old makers.old values.old changed.old registers.old snoops.old logs.old history.old lengths.old) (collector_of phase.old position.old closed.old) bytes.now answers.old)
+        ≡ record { number = result; free = free.new; place = place.new; events = events.new; phase = phase.new; position = position.new; closed = closed.new; tables = lent used.new counts.new held.new candidates.new makers.new values.new changed.new registers.new snoops.new logs.new history.new lengths.new; answers = answers.new } }
 {
     let before = Collector {
         phase: *phase,
@@ -939,8 +939,8 @@ pub extern "C" fn yuyarisun_report(
     free: &mut u16,
     place: &mut usize,
 ) -> u16
-    ensures { report_numbers (report_traced (lent used.entry counts.entry held.entry candidates.entry makers.entry values.entry changed.entry registers.entry snoops.entry logs.entry history.entry lengths.entry) (collector_of phase.old position.old closed.old) bytes.now lines.old)
-        ≡ record { number = result; free = free.new; place = place.new; events = events.new; cycles = cycles.new; phase = phase.new; position = position.new; closed = closed.new; tables = lent used.exit counts.exit held.exit candidates.exit makers.exit values.exit changed.exit registers.exit snoops.exit logs.exit history.exit lengths.exit; numbers = lines.new } }
+    ensures { report_numbers (report_traced (lent used.old counts.old held.old candidates.old makers.old values.old changed.old registers.old snoops.old logs.old history.old lengths.old) (collector_of phase.old position.old closed.old) bytes.now lines.old)
+        ≡ record { number = result; free = free.new; place = place.new; events = events.new; cycles = cycles.new; phase = phase.new; position = position.new; closed = closed.new; tables = lent used.new counts.new held.new candidates.new makers.new values.new changed.new registers.new snoops.new logs.new history.new lengths.new; numbers = lines.new } }
 {
     let before = Collector {
         phase: *phase,

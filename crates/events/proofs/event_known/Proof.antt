@@ -8,7 +8,7 @@ use Rattle.events.proofs.event_known.Tie as tie
 abbrev here : tie.Start → Tables
 here start =
     let at = start.args in
-    lent at.used at.counts at.held at.candidates at.makers at.values at.changed at.registers at.snoops at.logs at.history at.lengths
+    lent at.used.now at.counts.now at.held.now at.candidates.now at.makers.now at.values.now at.changed.now at.registers.now at.snoops.now at.logs.now at.history.now at.lengths.now
 
 enum-known-e : tie.Need-enum-known-e
 enum-known-e c = search rules

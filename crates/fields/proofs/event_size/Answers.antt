@@ -20,7 +20,7 @@ returns-then-left-lt7 c =
 pub returns-then-tag-eq1 : goal.returns-then-tag-eq1
 returns-then-tag-eq1 c =
     let at = c.args in
-    no_event_lem at.bytes.now at.place at.step (λ says. says.no-sizes c.if-tag-eq1.true)
+    no_event_lem at.bytes.now at.place at.step (λ says. says.no_sizes c.if-tag-eq1.true)
 
 pub returns-then-tag-eq127 : goal.returns-then-tag-eq127
 returns-then-tag-eq127 c =
@@ -61,7 +61,7 @@ returns c =
     (record {
       begins = omega arith;
       known = λ none. c.if-payload-eq0.false (tag ∙ none);
-      no_sizes_lem = c.if-tag-eq1.false;
+      no_sizes = c.if-tag-eq1.false;
       no_end = c.if-tag-eq127.false;
       long = sym c.two_at.ensures ∙ c.if-two_at-payload.false ∙ tag;
       whole = omega (arith, tag);

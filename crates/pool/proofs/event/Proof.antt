@@ -13,7 +13,7 @@ use Rattle.pool.proofs.event.Tie as tie
 abbrev here : tie.Start → Tables
 here start =
     let at = start.args in
-    lent at.used at.counts at.held at.candidates at.makers at.values at.changed at.registers at.snoops at.logs at.history at.lengths
+    lent at.used.now at.counts.now at.held.now at.candidates.now at.makers.now at.values.now at.changed.now at.registers.now at.snoops.now at.logs.now at.history.now at.lengths.now
 
 abbrev from_shape : tie.After-has-shape → tie.Start
 from_shape c = c.before.before.before.before.before.before.before.before.before.before.before.before.before.before.before.before.before.before.before.before.before.before.before.before.before

@@ -15,7 +15,7 @@ use Rattle.trace.proofs.replay_sized.Reads as replay-sized-reads
 abbrev here : tie.Start → Tables
 here start =
     let at = start.args in
-    lent at.used at.counts at.held at.candidates at.makers at.values at.changed at.registers at.snoops at.logs at.history at.lengths
+    lent at.used.now at.counts.now at.held.now at.candidates.now at.makers.now at.values.now at.changed.now at.registers.now at.snoops.now at.logs.now at.history.now at.lengths.now
 
 abbrev from_read : tie.After-read-at → tie.Start
 from_read c = c.before.before.before.before.before.before.before.before.before.before.before.before.before.before.before

@@ -16,14 +16,14 @@ use Rattle.worker.proofs.drops.Goals.{Else-not-worker-there}
 
 -- the test that worker and register are there
 there : (c : Else-not-worker-there) → let at = c.args in (has_worker at.s at.w && has_register at.s at.r) ≡ true
-there c = (λ j. sym c.has_worker-worker.ensures j && sym c.has_register-there.ensures j) ∙ not-false _ c.if-not-worker-there.false
+there c = (λ j. sym c.has_worker-worker.ensures j && sym c.has_register-there.ensures j) ∙ c.if-not-worker-there.false
 
 pub returns-then-not-worker-there : goal.returns-then-not-worker-there
 unfolding refusals
 returns-then-not-worker-there c t k known =
     let asked = c in
     let at = asked.args in
-    no_such_register known (Drop at.w at.r) asked.has_worker-worker.ensures asked.has_register-there.ensures refl (not-true _ c.if-not-worker-there.true) c.wrong_number.ensures
+    no_such_register known (Drop at.w at.r) asked.has_worker-worker.ensures asked.has_register-there.ensures refl (c.if-not-worker-there.true) c.wrong_number.ensures
 
 pub register_place-register-requires : goal.register_place-register-requires
 register_place-register-requires c =

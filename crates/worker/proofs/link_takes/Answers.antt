@@ -29,7 +29,7 @@ pub register_place-from-requires : goal.register_place-from-requires
 register_place-from-requires c = let at = start (goal.at.register_place-from-requires c).After-wide-link in (at.requires.0.2.sizes, at.requires.1, at.requires.2)
 
 pub offset_bounds-registers-from : goal.offset_bounds-registers-from
-offset_bounds-registers-from c = let at = start (linked c) in omega (arith, c.register_place-from.ensures.1, at.requires.0.2.exact.registers, at.good)
+offset_bounds-registers-from c = let at = start (linked c) in omega (arith, c.register_place-from.ensures.1, at.requires.0.2.exact.registers, at.well_formed)
 
 pub bounds-registers-from : goal.bounds-registers-from
 bounds-registers-from c =
@@ -39,7 +39,7 @@ bounds-registers-from c =
 pub is_on-marked-requires : goal.is_on-marked-requires
 is_on-marked-requires c =
     let read = linked (goal.at.is_on-marked-requires c).After-register_place-from in
-    omega (arith, read.wide-link.ensures, (start read).requires.3, (start read).requires.0.2.exact.changed-1)
+    omega (arith, read.wide-link.ensures, (start read).requires.3, (start read).requires.0.2.exact.changed)
 
 pub logged-requires : goal.logged-requires
 logged-requires c =
@@ -54,9 +54,9 @@ logged-requires c =
     record {
       sizes = known.sizes;
       worker = worker;
-      link = omega (arith, inside, known.exact.changed-1);
-      logs = known.exact.logs-1;
-      lengths = omega (arith, worker, known.exact.lengths-1);
+      link = omega (arith, inside, known.exact.changed);
+      logs = known.exact.logs;
+      lengths = omega (arith, worker, known.exact.lengths);
       mark = mark;
       free = λ off. room-stands known at.w at.l worker inside (sym mark ∙ off);
     }
@@ -73,7 +73,7 @@ snooped-requires c =
     let known = (start (linked (goal.at.snooped-requires placed).After-register_place-from)).requires.0.2 in
     let worker = (start (linked (goal.at.snooped-requires placed).After-register_place-from)).requires.1 in (
       omega (arith, worker, known.exact.snoops),
-      omega (arith, register_low known at.w at.r worker (start (linked (goal.at.snooped-requires placed).After-register_place-from)).requires.2, known.exact.held-1, ap (λ (i : ℕ). get_or at.registers.now i 0) placed.register_place-from.ensures.0),
+      omega (arith, register_low known at.w at.r worker (start (linked (goal.at.snooped-requires placed).After-register_place-from)).requires.2, known.exact.held, ap (λ (i : ℕ). get_or at.registers.now i 0) placed.register_place-from.ensures.0),
     )
 
 pub returns : goal.returns
@@ -85,7 +85,7 @@ returns c =
     let logs = c.logged in
     let link = read.wide-link.ensures in
     let register = placed.register_place-from.ensures.0 in
-    let here : Tables → Tables = stores_on at.held at.values at.changed at.registers at.snoops at.logs at.lengths in (
+    let here : Tables → Tables = stores_on at.held.now at.values.now at.changed.now at.registers.now at.snoops.now at.logs.now at.lengths.now in (
       ap (λ (i : ℕ). record_number (get_or at.values.now i 0)) link,
       (λ t.
           (λ j. put_held (c.snooped.ensures j) (put_values (set at.values.now read.wide-link.result (get_or at.registers.now placed.register_place-from.result 0)) (logs.ensures (here t) j)))

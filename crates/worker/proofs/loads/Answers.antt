@@ -1,6 +1,5 @@
 -- `worker::loads` meets its contract: it is `no_such_lem`, `load_holds-none` or `loaded`. Assumes nothing.
 use Prim.Native.Nat.{ℕ, ◌+◌, ◌*◌, ◌<◌}
-use denote.Ref.{at_last}
 use mathlib.Core.Path.{◌≡◌, refl, sym, ap, ◌∙◌}
 use mathlib.Core.Bool.{true, ◌&&◌}
 use native.Mathlib.Omega.{arith}
@@ -28,7 +27,7 @@ there : (c : Else-not-worker-there) → let at = (start c).args in has_numbers a
 there c =
     let asked = c in
     (λ j. sym asked.has_worker-worker.ensures j && (sym asked.has_register.ensures j && sym asked.has_register-2.ensures j) && sym asked.has_link.ensures j)
-    ∙ not-false _ c.if-not-worker-there.false
+    ∙ c.if-not-worker-there.false
 
 inside : (c : Else-not-worker-there) → let at = (start c).args in RegisterThere at.s at.w at.q × (at.r < at.s.r) × (at.f < at.s.k)
 inside c = let at = (start c).args in numbers_there at.s at.w at.q at.r at.f (there c)
@@ -40,7 +39,7 @@ returns-then-not-worker-there c t k known =
     let at = asked.args in
     no_such_lem known (Load at.w at.r at.q at.f) asked.has_worker-worker.ensures
     (λ j. asked.has_register.ensures j && asked.has_register-2.ensures j) asked.has_link.ensures refl
-    (not-true _ c.if-not-worker-there.true) c.wrong_number.ensures
+    (c.if-not-worker-there.true) c.wrong_number.ensures
 
 pub register_place-from-requires : goal.register_place-from-requires
 register_place-from-requires c = ((start c).requires.2.sizes, (inside c).0.worker, (inside c).0.register)
@@ -82,5 +81,5 @@ returns c t k known =
     (λ e. linked.if-base-eq0.false (ap (λ (i : ℕ). get_or at.registers.now i 0) from ∙ e))
     ∙ (λ j.
     let a : ℕ = get_or at.values.now (link j).0 0 in
-    record { answer = Loaded (record_number a); collector = k; tables = loads_on at.values (at_last at.registers (set at.registers.now (at.w * at.s.r + at.r) a)) t })
-    ∙ (λ j. record { answer = Loaded (sym takes.0 j); collector = k; tables = loads_on at.values (at_last at.registers (sym takes.1 j)) t })
+    record { answer = Loaded (record_number a); collector = k; tables = loads_on at.values.now (set at.registers.now (at.w * at.s.r + at.r) a) t })
+    ∙ (λ j. record { answer = Loaded (sym takes.0 j); collector = k; tables = loads_on at.values.now (sym takes.1 j) t })

@@ -4,7 +4,6 @@ use mathlib.Core.Path.{◌≡◌, refl, sym, ap, ◌∙◌}
 use mathlib.Core.Bool.{true}
 use native.Mathlib.Omega.{arith}
 use lib.ListN.{length, get_or, set, length-set}
-use denote.Ref.{at_last}
 use Rattle.rules.specs.Size.{links}
 use Rattle.laws.proofs.Number.{links_most}
 use Rattle.tables.specs.Bits.{marked}
@@ -65,7 +64,7 @@ returns c t =
     rw (sym start.requires.mark ∙ tested.if-marked.false)
     (λ j.
     logs_on
-    (at_last at.changed ((c.set_mark.ensures ∙ ap (λ (i : ℕ). marked at.changed.now i true) link) j))
-    (at_last at.logs (set (set at.logs.now (place j) at.l.0) (place j + 1) at.old.0))
-    (at_last at.lengths (set at.lengths.now at.w (get_or at.lengths.now at.w 0 + 1)))
+    ((c.set_mark.ensures ∙ ap (λ (i : ℕ). marked at.changed.now i true) link) j)
+    (set (set at.logs.now (place j) at.l.0) (place j + 1) at.old.0)
+    (set at.lengths.now at.w (get_or at.lengths.now at.w 0 + 1))
     t)

@@ -1,6 +1,5 @@
 -- `worker::looks` meets its contract: it is `no_such_lem` or `looked`. Assumes nothing.
 use Prim.Native.Nat.{ℕ, ◌+◌, ◌*◌, ◌<◌}
-use denote.Ref.{at_last}
 use mathlib.Core.Path.{◌≡◌, refl, sym, ◌∙◌}
 use mathlib.Core.Bool.{true, ◌&&◌}
 use borrow.Author.Tests.{not-true, not-false}
@@ -25,7 +24,7 @@ start c = (goal.at.Else-not-worker-there c).Start
 there : (c : Else-not-worker-there) → let at = (start c).args in (has_worker at.s at.w && has_register at.s at.r && has_entry at.s at.e) ≡ true
 there c =
     let asked = c in
-    (λ j. sym asked.has_worker-worker.ensures j && sym asked.has_register-there.ensures j && sym asked.has_entry.ensures j) ∙ not-false _ c.if-not-worker-there.false
+    (λ j. sym asked.has_worker-worker.ensures j && sym asked.has_register-there.ensures j && sym asked.has_entry.ensures j) ∙ c.if-not-worker-there.false
 
 inside : (c : Else-not-worker-there) → let at = (start c).args in RegisterThere at.s at.w at.r × (at.e < at.s.b)
 inside c = let at = (start c).args in entry_there at.s at.w at.r at.e (there c)
@@ -36,7 +35,7 @@ returns-then-not-worker-there c t k known =
     let asked = c in
     let at = asked.args in
     no_such_lem known (Look at.w at.r at.e) asked.has_worker-worker.ensures asked.has_register-there.ensures asked.has_entry.ensures refl
-    (not-true _ c.if-not-worker-there.true) c.wrong_number.ensures
+    (c.if-not-worker-there.true) c.wrong_number.ensures
 
 pub board_number-l-requires : goal.board_number-l-requires
 board_number-l-requires c = ((start c).requires.2.sizes, (inside c).1)
@@ -56,5 +55,5 @@ returns c t k known =
     looked known at.w at.r at.e (there (goal.at.returns tested).Else-not-worker-there)
     ∙ (λ j.
     let a : ℕ = get_or at.values.now (link j).0 0 in
-    record { answer = Loaded (record_number a); collector = k; tables = loads_on at.values (at_last at.registers (set at.registers.now (at.w * at.s.r + at.r) a)) t })
-    ∙ (λ j. record { answer = Loaded (sym takes.0 j); collector = k; tables = loads_on at.values (at_last at.registers (sym takes.1 j)) t })
+    record { answer = Loaded (record_number a); collector = k; tables = loads_on at.values.now (set at.registers.now (at.w * at.s.r + at.r) a) t })
+    ∙ (λ j. record { answer = Loaded (sym takes.0 j); collector = k; tables = loads_on at.values.now (sym takes.1 j) t })

@@ -4,7 +4,6 @@ use mathlib.Core.Path.{◌≡◌, refl, sym, ap, ◌∙◌}
 use mathlib.Core.Bool.{true, ◌&&◌}
 use native.Mathlib.Omega.{arith}
 use borrow.Author.Tests.{not-true, not-false}
-use denote.Ref.{at_last}
 use lib.ListN.{set, length-set}
 use Rattle.rules.specs.declared.RecordNumber.{RecordNumber}
 use Rattle.rules.specs.declared.Event.TheVariants.{Make}
@@ -30,18 +29,18 @@ abbrev tested : After-chosen-a → Else-not-worker-there
 tested c = (goal.at.After-chosen-a c).Else-not-worker-there
 
 abbrev start : After-chosen-a → Start
-start c = (tested c)
+start c = (goal.at.Else-not-worker-there (tested c)).Start
 
 -- the test that worker and register are there
 there : (c : Else-not-worker-there) → let at = c.args in (has_worker at.s at.w && has_register at.s at.r) ≡ true
-there c = (λ j. sym c.has_worker-worker.ensures j && sym c.has_register-there.ensures j) ∙ not-false _ c.if-not-worker-there.false
+there c = (λ j. sym c.has_worker-worker.ensures j && sym c.has_register-there.ensures j) ∙ c.if-not-worker-there.false
 
 pub returns-then-not-worker-there : goal.returns-then-not-worker-there
 unfolding refusals
 returns-then-not-worker-there c t k known =
     let asked = c in
     let at = asked.args in
-    no_such_register known (Make at.w at.r) asked.has_worker-worker.ensures asked.has_register-there.ensures refl (not-true _ c.if-not-worker-there.true) c.wrong_number.ensures
+    no_such_register known (Make at.w at.r) asked.has_worker-worker.ensures asked.has_register-there.ensures refl (c.if-not-worker-there.true) c.wrong_number.ensures
 
 pub last_place-last-requires : goal.last_place-last-requires
 last_place-last-requires c = c.requires.2.sizes
@@ -56,15 +55,15 @@ chosen-a-requires c =
     let at = c in
     let start = at in
     let known = start.requires.2 in
-    ((bounds start.args.s known.sizes).n_most, known.exact.used-1, last_low known at.last_place-last.result at.last_place-last.ensures)
+    ((bounds start.args.s known.sizes).n_most, known.exact.used, last_low known at.last_place-last.result at.last_place-last.ensures)
 
 -- what the search found, in every pool in whose tables those at hand lie
 picked : (c : After-chosen-a) → let at = (start c).args in
-    (t : Tables) (k : Collector) → Known at.s (makes_on at.used at.makers at.registers t) k
-    → chosen (pool_of at.s (makes_on at.used at.makers at.registers t) k) ≡ c.chosen-a.result
+    (t : Tables) (k : Collector) → Known at.s (makes_on at.used.now at.makers.now at.registers.now t) k
+    → chosen (pool_of at.s (makes_on at.used.now at.makers.now at.registers.now t) k) ≡ c.chosen-a.result
 picked c t k known =
     let at = (start c).args in
-    sym (c.chosen-a.ensures (pool_of at.s (makes_on at.used at.makers at.registers t) k) (marks_stand known)
+    sym (c.chosen-a.ensures (pool_of at.s (makes_on at.used.now at.makers.now at.registers.now t) k) (marks_stand known)
     (last_stands known c.last_place-last.result c.last_place-last.ensures))
 
 pub returns-then-a-eq0 : goal.returns-then-a-eq0
@@ -81,7 +80,7 @@ inside c =
     omega (arith, c.record_place-place.ensures, ap (λ (a : RecordNumber). a.0) (picked (goal.at.After-record_place-place found).After-chosen-a some.0 some.1 some.2), chosen_inside some.2)
 
 pub set_mark-requires : goal.set_mark-requires
-set_mark-requires c = omega (arith, inside (goal.at.set_mark-requires c).After-record_place-place, (start (goal.at.set_mark-requires c).After-chosen-a).requires.2.exact.used-1)
+set_mark-requires c = omega (arith, inside (goal.at.set_mark-requires c).After-record_place-place, (start (goal.at.set_mark-requires c).After-chosen-a).requires.2.exact.used)
 
 pub bounds-makers-place : goal.bounds-makers-place
 bounds-makers-place c =
@@ -117,7 +116,7 @@ returns c t k known =
     ∙ ap (λ (x : RecordNumber). record {
       answer = Made x;
       collector = k;
-      tables = makes_on (at_last at.used (marked at.used.now (x.0 - 1) true)) (at_last at.makers (set at.makers.now (x.0 - 1) (at.w + 1))) (at_last at.registers (set (set at.registers.now (at.s.w * at.s.r) x.0) (at.w * at.s.r + at.r) x.0)) t;
+      tables = makes_on (marked at.used.now (x.0 - 1) true) (set at.makers.now (x.0 - 1) (at.w + 1)) (set (set at.registers.now (at.s.w * at.s.r) x.0) (at.w * at.s.r + at.r) x.0) t;
     }) a
     ∙ (λ j.
     let x = found.chosen-a.result in
@@ -125,5 +124,5 @@ returns c t k known =
     record {
       answer = Made x;
       collector = k;
-      tables = makes_on (at_last at.used ((ap (λ (i : ℕ). marked at.used.now i true) (sym place.ensures) ∙ sym c.set_mark.ensures) j)) (at_last at.makers (set at.makers.now record-at (at.w + 1))) (at_last at.registers (set (set at.registers.now (sym last.ensures j) x.0) (sym c.register_place-register.ensures.0 j) x.0)) t;
+      tables = makes_on ((ap (λ (i : ℕ). marked at.used.now i true) (sym place.ensures) ∙ sym c.set_mark.ensures) j) (set at.makers.now record-at (at.w + 1)) (set (set at.registers.now (sym last.ensures j) x.0) (sym c.register_place-register.ensures.0 j) x.0) t;
     })

@@ -23,7 +23,7 @@ start c = (goal.at.Else-not-worker-there c).Start
 there : (c : Else-not-worker-there) → let at = (start c).args in (has_worker at.s at.w && (has_register at.s at.r && has_register at.s at.q)) ≡ true
 there c =
     let asked = c in
-    (λ j. sym asked.has_worker-worker.ensures j && (sym asked.has_register.ensures j && sym asked.has_register-2.ensures j)) ∙ not-false _ c.if-not-worker-there.false
+    (λ j. sym asked.has_worker-worker.ensures j && (sym asked.has_register.ensures j && sym asked.has_register-2.ensures j)) ∙ c.if-not-worker-there.false
 
 inside : (c : Else-not-worker-there) → let at = (start c).args in RegisterThere at.s at.w at.r × (at.q < at.s.r)
 inside c = let at = (start c).args in registers_there at.s at.w at.r at.q (there c)
@@ -34,7 +34,7 @@ returns-then-not-worker-there c t k known =
     let asked = c in
     let at = asked.args in
     no_such_register known (Move at.w at.r at.q) asked.has_worker-worker.ensures (λ j. asked.has_register.ensures j && asked.has_register-2.ensures j) refl
-    (not-true _ c.if-not-worker-there.true) c.wrong_number.ensures
+    (c.if-not-worker-there.true) c.wrong_number.ensures
 
 pub register_place-from-requires : goal.register_place-from-requires
 register_place-from-requires c = ((start c).requires.2.sizes, (inside c).0.worker, (inside c).1)

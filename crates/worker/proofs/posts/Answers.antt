@@ -26,7 +26,7 @@ start c = (goal.at.Else-not-worker-there c).Start
 there : (c : Else-not-worker-there) → let at = (start c).args in (has_worker at.s at.w && has_register at.s at.r && has_entry at.s at.e) ≡ true
 there c =
     let asked = c in
-    (λ j. sym asked.has_worker-worker.ensures j && sym asked.has_register-there.ensures j && sym asked.has_entry.ensures j) ∙ not-false _ c.if-not-worker-there.false
+    (λ j. sym asked.has_worker-worker.ensures j && sym asked.has_register-there.ensures j && sym asked.has_entry.ensures j) ∙ c.if-not-worker-there.false
 
 inside : (c : Else-not-worker-there) → let at = (start c).args in RegisterThere at.s at.w at.r × (at.e < at.s.b)
 inside c = let at = (start c).args in entry_there at.s at.w at.r at.e (there c)
@@ -41,7 +41,7 @@ returns-then-not-worker-there c t k known =
     let asked = c in
     let at = asked.args in
     no_such_lem known (Post at.w at.e at.r) asked.has_worker-worker.ensures asked.has_register-there.ensures asked.has_entry.ensures refl
-    (not-true _ c.if-not-worker-there.true) c.wrong_number.ensures
+    (c.if-not-worker-there.true) c.wrong_number.ensures
 
 pub board_number-l-requires : goal.board_number-l-requires
 board_number-l-requires c = ((start c).requires.2.sizes, (inside c).1)
@@ -57,7 +57,7 @@ returns c t k known =
     let entry = c in
     let tested = entry in
     let at = (start (goal.at.returns tested).Else-not-worker-there).args in
-    let here : Tables = stores_on at.held at.values at.changed at.registers at.snoops at.logs at.lengths t in
+    let here : Tables = stores_on at.held.now at.values.now at.changed.now at.registers.now at.snoops.now at.logs.now at.lengths.now t in
     let takes = c.link_takes-old.ensures in
     posted known at.w at.e at.r (there (goal.at.returns tested).Else-not-worker-there)
     ∙ (λ j.

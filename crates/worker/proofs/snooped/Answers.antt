@@ -10,17 +10,17 @@ use Rattle.worker.proofs.snooped.Goals as goal
 
 pub returns-then-not-is_flagged : goal.returns-then-not-is_flagged
 unfolding held_after
-returns-then-not-is_flagged c = rw (sym c.is_flagged.ensures ∙ not-true _ c.if-not-is_flagged.true) refl
+returns-then-not-is_flagged c = rw (sym c.is_flagged.ensures ∙ c.if-not-is_flagged.true) refl
 
 pub returns-then-a-eq0 : goal.returns-then-a-eq0
 unfolding held_after
 returns-then-a-eq0 c =
-    rw (sym c.is_flagged.ensures ∙ not-false _ c.if-not-is_flagged.false) (rw c.if-a-eq0.true refl)
+    rw (sym c.is_flagged.ensures ∙ c.if-not-is_flagged.false) (rw c.if-a-eq0.true refl)
 
 pub returns : goal.returns
 unfolding held_after
 returns c =
     let at = c.args in
     let place = c.record_place-place in
-    rw (sym c.is_flagged.ensures ∙ not-false _ c.if-not-is_flagged.false)
+    rw (sym c.is_flagged.ensures ∙ c.if-not-is_flagged.false)
     (c.set_mark.ensures ∙ mark_place at.held.now at.a.0 place.result true (omega arith) place.ensures)

@@ -30,7 +30,7 @@ there : (c : Else-not-worker-there) → let at = (start c).args in has_numbers a
 there c =
     let asked = c in
     (λ j. sym asked.has_worker-worker.ensures j && (sym asked.has_register.ensures j && sym asked.has_register-2.ensures j) && sym asked.has_link.ensures j)
-    ∙ not-false _ c.if-not-worker-there.false
+    ∙ c.if-not-worker-there.false
 
 -- the register that is read is the one of the event
 base : (c : After-register_place-through) → let at = (start (goal.at.After-register_place-through c).Else-not-worker-there).args in get_or at.registers.now (at.w * at.s.r + at.q) 0 ≡ get_or at.registers.now c.register_place-through.result 0
@@ -50,7 +50,7 @@ returns-then-not-worker-there c t k known =
     let at = asked.args in
     no_such_lem known (Store at.w at.q at.f at.r) asked.has_worker-worker.ensures
     (λ j. asked.has_register.ensures j && asked.has_register-2.ensures j) asked.has_link.ensures refl
-    (not-true _ c.if-not-worker-there.true) c.wrong_number.ensures
+    (c.if-not-worker-there.true) c.wrong_number.ensures
 
 pub register_place-through-requires : goal.register_place-through-requires
 register_place-through-requires c =
@@ -89,7 +89,7 @@ returns c t k known =
     let linked = c in
     let tested = linked in
     let at = (start (goal.at.returns tested).Else-not-worker-there).args in
-    let here : Tables = stores_on at.held at.values at.changed at.registers at.snoops at.logs at.lengths t in
+    let here : Tables = stores_on at.held.now at.values.now at.changed.now at.registers.now at.snoops.now at.logs.now at.lengths.now t in
     let takes = c.link_takes-old.ensures in
     stored known at.w at.q at.f at.r (there (goal.at.returns tested).Else-not-worker-there)
     (λ e. linked.if-base-eq0.false (sym (base (goal.at.returns linked).After-register_place-through) ∙ e))

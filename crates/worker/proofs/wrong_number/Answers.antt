@@ -3,10 +3,10 @@ use borrow.Author.Tests.{not-true, not-false}
 use Rattle.worker.proofs.wrong_number.Goals as goal
 
 pub returns-then-not-worker : goal.returns-then-not-worker
-returns-then-not-worker c = rw (not-true c.args.worker c.if-not-worker.true)
+returns-then-not-worker c = rw (c.if-not-worker.true)
 
 pub returns-then-not-registers : goal.returns-then-not-registers
-returns-then-not-registers c = rw (not-false c.args.worker c.if-not-worker.false, not-true c.args.registers c.if-not-registers.true)
+returns-then-not-registers c = rw (c.if-not-worker.false, c.if-not-registers.true)
 
 pub returns : goal.returns
-returns c = rw (not-false c.args.worker c.if-not-worker.false, not-false c.args.registers c.if-not-registers.false)
+returns c = rw (c.if-not-worker.false, c.if-not-registers.false)

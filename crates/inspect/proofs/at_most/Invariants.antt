@@ -1,0 +1,16 @@
+-- The loop of `at_most`.
+use Prim.Native.Nat.{ℕ, ◌≤◌, ◌-◌}
+use mathlib.Core.Path.{◌≡◌, refl}
+use native.Mathlib.Omega.{arith}
+use borrow.Author.Rules.{rules}
+use lib.Dec.{leb}
+use lib.ListN.{length, take}
+use Rattle.clauses.specs.IsSound.{every}
+use Rattle.inspect.proofs.Tested.{every_more, every_all}
+use Rattle.inspect.proofs.at_most.Given as goal
+
+abbrev pub invariant-loop-i : goal.invariant-loop-i
+invariant-loop-i l = (l.i ≤ length l.xs) × (l.ok ≡ every (λ n. leb n l.most) (take l.i l.xs))
+
+abbrev pub decreases-loop-i : goal.decreases-loop-i
+decreases-loop-i l = length l.xs - l.i

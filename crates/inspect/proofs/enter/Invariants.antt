@@ -1,0 +1,23 @@
+-- The loop of `enter`.
+use Prim.Native.Nat.{ℕ, suc, ◌+◌, ◌*◌, ◌-◌, ◌≤◌}
+use mathlib.Core.Path.{◌≡◌, refl, ap, ◌∙◌}
+use mathlib.Core.Bool.{true}
+use native.Mathlib.Omega.{arith}
+use native.Mathlib.Nat.{mul-le-mul_right, suc-mul}
+use borrow.Author.Rules.{rules}
+use lib.ListN.{length}
+use Rattle.tables.specs.Lie.{entries}
+use Rattle.clauses.specs.Entered.{entered_all}
+use Rattle.inspect.proofs.Most.{Most, most_at}
+use Rattle.inspect.proofs.Noting.{entries_most, entered_next}
+use Rattle.inspect.proofs.enter.Given as goal
+
+abbrev pub invariant-loop-i : goal.invariant-loop-i
+invariant-loop-i l =
+    (k : ℕ)
+    × (l.i ≡ k * 2)
+    × (l.i ≤ length l.list)
+    × (entered_all l.links l.records l.by (entries k l.list) (record { l.ok = true; l.seen = l.initial.seen; l.last = l.initial.last }) ≡ record { l.ok = l.ok; l.seen = l.seen; l.last = l.last })
+
+abbrev pub decreases-loop-i : goal.decreases-loop-i
+decreases-loop-i l = length l.list - l.i

@@ -1,0 +1,16 @@
+-- The loop of `seen_once`.
+use Prim.Native.Nat.{ℕ, ◌+◌, ◌-◌, ◌≤◌}
+use mathlib.Core.Path.{◌≡◌, refl, ap, ◌∙◌}
+use native.Mathlib.Omega.{arith}
+use borrow.Author.Rules.{rules}
+use lib.ListN.{get_or}
+use Rattle.clauses.specs.IsSound.{below}
+use Rattle.inspect.specs.Lent.{is_once}
+use Rattle.inspect.proofs.Tested.{below_more}
+use Rattle.inspect.proofs.seen_once.Given as goal
+
+abbrev pub invariant-loop-i : goal.invariant-loop-i
+invariant-loop-i l = (l.i ≤ 64) × (l.ok ≡ below l.i (λ l. is_once (get_or l.seen (l.from + l) 0)))
+
+abbrev pub decreases-loop-i : goal.decreases-loop-i
+decreases-loop-i l = 64 - l.i

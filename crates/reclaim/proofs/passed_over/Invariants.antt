@@ -1,0 +1,24 @@
+-- The loop of `passed_over`.
+use Prim.Native.Nat.{ℕ, ◌+◌, ◌-◌, ◌*◌, ◌≤◌, ◌<◌}
+use mathlib.Core.Path.{◌≡◌, ap, ◌∙◌}
+use mathlib.Core.Bool.{false}
+use mathlib.Core.Logic.{⊎_elim}
+use native.Mathlib.Omega.{arith}
+use native.Mathlib.Nat.{mod-lt, zero-lt-suc}
+use borrow.Author.Rules.{rules}
+use lib.ListN.{length}
+use Rattle.laws.proofs.Tests.{below_or_not}
+use Rattle.reclaim.specs.Raw.{may_wait}
+use Rattle.reclaim.proofs.Idle.{word_idle}
+use Rattle.reclaim.proofs.passed_over.Given as goal
+
+abbrev pub invariant-loop-word : goal.invariant-loop-word
+invariant-loop-word l =
+    (l.word ≤ length l.used)
+    × (l.rest < 64)
+    × (l.a ≤ l.word * 64 + l.rest + 1)
+    × (l.word < length l.used → l.word * 64 + l.rest ≤ l.n)
+    × ((b : ℕ) → l.a ≤ b → b ≤ l.word * 64 + l.rest → may_wait l.used l.held l.candidates (b - 1) ≡ false)
+
+abbrev pub decreases-loop-word : goal.decreases-loop-word
+decreases-loop-word l = length l.used - l.word

@@ -1,0 +1,35 @@
+-- The loop of `reclaimed`.
+use Prim.Native.Nat.{ℕ, ◌+◌, ◌-◌, ◌≤◌, ◌<◌}
+use mathlib.Core.Path.{◌≡◌, sym, ap, ◌∙◌}
+use mathlib.Core.Logic.{inl, inr, ⊎_elim}
+use mathlib.Core.Bool.{false}
+use native.Mathlib.Omega.{arith}
+use borrow.Author.Count.{below_more}
+use borrow.Author.Rules.{rules}
+use borrow.Author.Tests.{not-true, not-false}
+use Rattle.rules.specs.declared.RecordNumber.{RecordNumber}
+use Rattle.rules.specs.Size.{link_number}
+use Rattle.tables.specs.Tables.{Tables}
+use Rattle.tables.specs.Bits.{mark_at}
+use Rattle.tables.specs.Lie.{record_number}
+use Rattle.laws.proofs.Number.{bounds}
+use Rattle.laws.proofs.Tests.{below_or_not}
+use Rattle.reclaim.specs.Lent.{reclaims_on}
+use Rattle.reclaim.specs.Raw.{waits}
+use Rattle.reclaim.proofs.Idle.{idle_waits}
+use Rattle.reclaim.proofs.Found.{search_finds, search_finds_none, Fails, record_fails, record_passes, record_sits}
+use Rattle.reclaim.proofs.reclaimed.Given as goal
+
+abbrev pub invariant-loop-f : goal.invariant-loop-f
+invariant-loop-f l =
+    (l.f ≤ l.end) × ((g : ℕ) → g < l.f → mark_at l.changed (link_number l.s l.record g).0 ≡ false)
+
+abbrev pub decreases-loop-f : goal.decreases-loop-f
+decreases-loop-f l = l.end - l.f
+
+abbrev pub invariant-records : goal.invariant-records
+invariant-records l =
+    (1 ≤ l.a) × (l.a ≤ l.s.n + 1) × ((b : ℕ) → b < l.a → 1 ≤ b → Fails l.s l.used l.counts l.held l.candidates l.values l.changed (record_number b))
+
+abbrev pub decreases-records : goal.decreases-records
+decreases-records l = l.s.n + 1 - l.a
