@@ -110,10 +110,10 @@ module _ {s : Sizes} {t : Tables} {c : Collector} (known : Known s t c) (phase :
         history = omega (arith, exact.history);
         entry = omega (arith, exact.history, there);
         position = omega (arith, there);
-        old = omega (arith, exact.counts, in-range.old);
+        old = omega (arith, exact.counts, in_range_lem.old);
         candidates = exact.candidates ∙ ap word_count (sym exact.counts);
         counted = subst (λ (e : Entry). 1 ≤ e.old.0 → 1 ≤ count_at p e.old) entry_here_lem (old_has_count sound phase);
-        link = in-range.link;
+        link = in_range_lem.link;
         value = exact.values;
         mark = exact.changed;
         one =
@@ -123,7 +123,7 @@ module _ {s : Sizes} {t : Tables} {c : Collector} (known : Known s t c) (phase :
               logs = exact.logs;
               lengths = exact.lengths;
               low = length_known known;
-              one = one_entry sound here.link phase in-range.link (changed_stands s t c here.link in-range.link ∙ on);
+              one = one_entry sound here.link phase in_range_lem.link (changed_stands s t c here.link in_range_lem.link ∙ on);
             };
         view = omega (arith, exact.counts, length-fewer here.old.0 t.counts);
         room = omega (arith, fewer_most here.old.0 v t.counts, count_low v low);

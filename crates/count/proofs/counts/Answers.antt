@@ -20,17 +20,17 @@ use Rattle.count.specs.Lent.{counts_on}
 use Rattle.count.proofs.Entry.{Ready, ready, history_entries}
 use Rattle.count.proofs.Step.{counted_in, counted_on, emptied_on}
 use Rattle.count.proofs.counts.Goals as goal
-use Rattle.count.proofs.counts.Goals.{After-clear, After-rises, After-view_value, After-wide-at, Start}
+use Rattle.count.proofs.counts.Goals.{After-clear, After-rises, After-rises-arg-1, After-view_value, After-wide-at, Start}
 
 -- the places that the answers go back to: the start, from where the position is read; and there, from where the view value is asked and both counts are written
 abbrev start : After-wide-at → Start
 start c = (goal.at.After-wide-at c).Start
 
-abbrev asked : ?After-view-value-arg → After-wide-at
-asked c = (goal.at.?After-view-value-arg c).After-wide-at
+abbrev asked : After-rises-arg-1 → After-wide-at
+asked c = (goal.at.After-rises-arg-1 c).After-wide-at
 
 abbrev read : After-rises → After-wide-at
-read c = asked (goal.at.After-rises c).?After-view-value-arg
+read c = asked (goal.at.After-rises c).After-rises-arg-1
 
 -- the tables at hand, among any others
 abbrev lent : Start → Tables → Tables
@@ -39,7 +39,7 @@ lent c =
 
 -- what the answers below rest on
 ready_at : (c : After-wide-at)
-    → Ready (start c).args.s (lent (start c) (start c).requires.0.now) (start c).args.c c.wide-last.result c.wide-at.result
+    → Ready (start c).args.s (lent (start c) (start c).requires.0) (start c).args.c c.wide-last.result c.wide-at.result
 ready_at c = ready (start c).requires.1 (start c).requires.2 c.wide-last.ensures c.wide-at.ensures
 
 pub bounds-history-at : goal.bounds-history-at
@@ -52,17 +52,17 @@ pub falls-requires : goal.falls-requires
 falls-requires c = let r = ready_at (goal.at.falls-requires c).After-wide-at in (r.old, r.candidates, r.counted)
 
 pub view_value-requires : goal.view_value-requires
-view_value-requires c = let r = ready_at (asked (goal.at.view_value-requires c).?After-view-value-arg) in (r.link, r.value, r.mark, r.one)
+view_value-requires c = let r = ready_at (asked (goal.at.view_value-requires c).After-rises-arg-1) in (r.link, r.value, r.mark, r.one)
 
 -- the view value of the entry's link, in any pool that has these tables
-seen : (c : After-view_value) (t : Tables) (x : Collector) → let at = asked (goal.at.After-view_value c).?After-view-value-arg in
+seen : (c : After-view_value) (t : Tables) (x : Collector) → let at = asked (goal.at.After-view_value c).After-rises-arg-1 in
     c.view_value.result ≡ view_value (pool_of (start at).args.s (lent (start at) t) x) (entry_in (start at).args.history.now at.wide-at.result).link
 unfolding pool_of view_value
 seen c t x = c.view_value.ensures t x
 
 pub rises-requires : goal.rises-requires
 rises-requires c =
-    let at = asked (goal.at.rises-requires c).?After-view-value-arg in
+    let at = asked (goal.at.rises-requires c).After-rises-arg-1 in
     let r = ready_at at in
     subst₂ (λ (counts : List ℕ) (v : ℕ). (v ≤ length counts) × (of_record counts v 0 < 65535))
     (sym c.falls.ensures.0)
@@ -72,7 +72,7 @@ rises-requires c =
 -- both counts and the candidate marks, as they are written
 written : (c : After-rises) (t : Tables) (x : Collector) → let first = start (read c) in
     counted_in first.args.s (lent first t) x (read c).wide-at.result
-    ≡ put_counts c.rises.new.counts (put_candidates c.falls.new.candidates.0 (lent first t))
+    ≡ put_counts c.rises.new.counts (put_candidates c.falls.new.candidates (lent first t))
 written c t x =
     let fell = c.falls.ensures in
     λ j.

@@ -55,6 +55,9 @@ overflow_mul-to c = omega (arith, inside c)
 pub overflow_add-to : goal.overflow_add-to
 overflow_add-to c = omega (arith, inside c)
 
+pub slice_bounds-find-end : goal.slice_bounds-find-end
+slice_bounds-find-end c = omega (arith, inside c)
+
 -- the log's part of the table
 abbrev part : After-wide-in-loop-w → List ℕ
 part c =
@@ -89,7 +92,7 @@ says c b =
 pub returns-in-Old : goal.returns-in-Old
 returns-in-Old c =
     let at = c in
-    let old = c.found-1.given in
+    let old = c.in-Old.is in
     look_up_found (start (goal.at.returns-in-Old at).After-wide-in-loop-w).args.l (logs (goal.at.returns-in-Old at).After-wide-in-loop-w) (worker (goal.at.returns-in-Old at).After-wide-in-loop-w) (here (goal.at.returns-in-Old at).After-wide-in-loop-w) (start (goal.at.returns-in-Old at).After-wide-in-loop-w).requires.one old.0.0
     (λ b. says (goal.at.returns-in-Old c).After-find-found b ∙ ap (λ found. old_or found b) old.1)
 
@@ -101,7 +104,7 @@ loop-w-preserved c =
     let last : suc (worker (goal.at.loop-w-preserved at).After-wide-in-loop-w) ≡ loop.w = omega (arith, at.loop-w-test.true) in (
       omega arith,
       look_up_more l (logs (goal.at.loop-w-preserved at).After-wide-in-loop-w) (worker (goal.at.loop-w-preserved at).After-wide-in-loop-w) (here (goal.at.loop-w-preserved at).After-wide-in-loop-w) (ap (λ (w : ℕ). times l (flatten (drop w (logs (goal.at.loop-w-preserved at).After-wide-in-loop-w)))) last ∙ loop.invariant.1)
-          (λ b. says (goal.at.loop-w-preserved c).After-find-found b ∙ ap (λ found. old_or found b) c.enum_told-1.given.1),
+          (λ b. says (goal.at.loop-w-preserved c).After-find-found b ∙ ap (λ found. old_or found b) c.in_default.is),
     )
 
 pub returns : goal.returns

@@ -12,7 +12,7 @@ use Rattle.cycles.proofs.put_closed.Goals as goal
 pub put_cycle-requires : goal.put_cycle-requires
 put_cycle-requires c =
     let start = c in
-    let few = start.requires.few.0 in
+    let few = start.requires.few in
     (omega arith, (omega (arith, ap (λ x. x.taken) c.closed_cycle.ensures, few.taken), omega (arith, ap (λ x. x.freed) c.closed_cycle.ensures, few.freed)))
 
 pub returns-then-before-after : goal.returns-then-before-after

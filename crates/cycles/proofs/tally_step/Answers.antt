@@ -16,13 +16,13 @@ pub overflow_add-result : goal.overflow_add-result
 overflow_add-result c =
     let start = c in
     let at = start.args in
-    omega (arith, taken-room at.t 0 at.before at.after at.had at.has at.answer (omega (arith, start.ranges)) c.taken_at-taken.ensures c.freed_by-freed.ensures start.requires.few.0.taken)
+    omega (arith, taken-room at.t 0 at.before at.after at.had at.has at.answer (omega (arith, start.ranges)) c.taken_at-taken.ensures c.freed_by-freed.ensures start.requires.few.taken)
 
 pub overflow_add-result-2 : goal.overflow_add-result-2
 overflow_add-result-2 c =
     let start = c in
     let at = start.args in
-    omega (arith, freed_room at.t 0 at.before at.after at.had at.has at.answer (omega (arith, start.ranges)) c.taken_at-taken.ensures c.freed_by-freed.ensures start.requires.few.0.freed)
+    omega (arith, freed_room at.t 0 at.before at.after at.had at.has at.answer (omega (arith, start.ranges)) c.taken_at-taken.ensures c.freed_by-freed.ensures start.requires.few.freed)
 
 pub returns : goal.returns
 returns c =

@@ -59,7 +59,7 @@ shape_of-lengths-then-not-has_shape c = refl
 
 pub returns-then-not-has_shape : goal.returns-then-not-has_shape
 unfolding made_fresh
-returns-then-not-has_shape c = rw (sym c.has_shape.ensures ∙ not-true _ c.if-not-has_shape.true) refl
+returns-then-not-has_shape c = rw (sym c.has_shape.ensures ∙ c.if-not-has_shape.true) refl
 
 pub shape_of-used : goal.shape_of-used
 shape_of-used c = c.used-1.given
@@ -102,7 +102,7 @@ unfolding made_fresh written fresh zero_tables
 returns c =
     let at = c.args in
     let here : Tables = lent at.used.now at.counts.now at.held.now at.candidates.now at.makers.now at.values.now at.changed.now at.registers.now at.snoops.now at.logs.now at.history.now at.lengths.now in
-    let fit = sym c.has_shape.ensures ∙ not-false _ c.if-not-has_shape.false in
+    let fit = sym c.has_shape.ensures ∙ c.if-not-has_shape.false in
     let exact : Exact at.s here = exact_tells at.s here (and_right (in_range at.s) _ fit) in
     rw fit
     (ap (λ (t : Tables). record { answer = Fresh; collector = record { phase = 0; position = 0; closed = 0 }; tables = t }) (fresh-zero at.s)

@@ -22,7 +22,7 @@ set_mark-requires c =
     omega (
       arith,
       (entry_known start.requires.1 (inl start.requires.2)).1.link,
-      start.requires.1.exact.changed-1,
+      start.requires.1.exact.changed,
       ap (λ (i : ℕ). get_or start.args.history.now (i * 2) 0) c.wide-at.ensures,
     )
 

@@ -15,6 +15,7 @@ use Rattle.tables.proofs.Packed.{mark_place}
 use Rattle.gather.specs.Raw.{held_in}
 use Rattle.gather.proofs.Held.{length_record, held_next}
 use Rattle.gather.proofs.held_by.Goals as goal
+use Rattle.gather.proofs.held_by.Goals.{then-a-ne0, else-a-ne0}
 
 pub loop-r-init : goal.loop-r-init
 loop-r-init c = (search rules, refl, refl)
@@ -31,10 +32,10 @@ loop-r-preserved c =
     let registers = c.args.registers.now in
     let a : ℕ = get_or registers at.r 0 in
     let marked : c.if-a-ne0.held ≡ mark_record at.held a true =
-    ⊎_elim
-    (λ w. w.6 ∙ w.3.ensures ∙ mark_place at.held a (w.2.result - 1) true (omega arith) (omega arith))
-    (λ w. w.1 ∙ sym (ap (λ (i : ℕ). mark_record at.held i true) w.0.left))
-    c.if-a-ne0.branch in (
+    elim c.if-a-ne0.branch [
+      then-a-ne0 w ↦ w.held-is ∙ w.set_mark.ensures ∙ mark_place at.held a (w.wide.result - 1) true (omega arith) (omega arith)
+      | else-a-ne0 w ↦ w.held-is ∙ sym (ap (λ (i : ℕ). mark_record at.held i true) w.if-a-ne0.false)
+    ] in (
       omega arith,
       ap length marked ∙ length_record at.held a true ∙ at.invariant.1,
       ap (held_in (drop (at.r + 1) registers)) marked ∙ held_next registers at.held at.r (omega arith) ∙ at.invariant.2,

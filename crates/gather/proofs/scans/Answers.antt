@@ -48,7 +48,7 @@ row_here c =
 pub set_flag-requires : goal.set_flag-requires
 set_flag-requires c =
     let entry = c in
-    omega (arith, position_known entry.requires.1 4 entry.requires.2, entry.requires.1.exact.snoops-1)
+    omega (arith, position_known entry.requires.1 4 entry.requires.2, entry.requires.1.exact.snoops)
 
 pub register_place-from-requires : goal.register_place-from-requires
 register_place-from-requires c =
@@ -56,12 +56,15 @@ register_place-from-requires c =
     let known = entry.requires.1 in
     (known.sizes, position_known known 4 entry.requires.2, (bounds entry.args.s known.sizes).r_least)
 
+pub slice_bounds-held_by-end : goal.slice_bounds-held_by-end
+slice_bounds-held_by-end c = (row_here (goal.at.slice_bounds-held_by-end c).After-wide-2).1
+
 pub held_by-requires : goal.held_by-requires
 held_by-requires c =
     let entry = start (goal.at.held_by-requires c).After-wide-2 in
     let known = entry.requires.1 in
     subst (λ (part : List ℕ). Each (λ a. a ≤ length entry.args.held.now * 64) part) (sym (row_here (goal.at.held_by-requires c).After-wide-2).0)
-    (Each-map (take entry.args.s.r (drop (entry.args.c.position * entry.args.s.r) entry.args.registers.now)) (λ a low. let h : a ≤ length entry.args.held.now * 64 = omega (arith, known.exact.held-1) in h) (row_known known entry.requires.2))
+    (Each-map (take entry.args.s.r (drop (entry.args.c.position * entry.args.s.r) entry.args.registers.now)) (λ a low. let h : a ≤ length entry.args.held.now * 64 = omega (arith, known.exact.held) in h) (row_known known entry.requires.2))
 
 pub onward-requires : goal.onward-requires
 onward-requires c =

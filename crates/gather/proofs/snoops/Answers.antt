@@ -11,7 +11,7 @@ use Rattle.gather.proofs.snoops.Goals as goal
 pub set_flag-requires : goal.set_flag-requires
 set_flag-requires c =
     let start = c in
-    omega (arith, position_known start.requires.1 1 start.requires.2, start.requires.1.exact.snoops-1)
+    omega (arith, position_known start.requires.1 1 start.requires.2, start.requires.1.exact.snoops)
 
 pub onward-requires : goal.onward-requires
 onward-requires c =

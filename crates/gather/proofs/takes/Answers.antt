@@ -57,7 +57,7 @@ part_here : (c : After-wide)
 part_here c =
     let ns = lengths_here (read c) in
     let from = c.log_place-from.ensures in
-    (from.0, omega (arith, from.0, ns), omega (arith, from, ns, (start (read c)).requires.1.exact.logs-1))
+    (from.0, omega (arith, from.0, ns), omega (arith, from, ns, (start (read c)).requires.1.exact.logs))
 
 -- ---- the needs
 
@@ -78,6 +78,9 @@ overflow_add-to c = omega (arith, part_here c)
 pub overflow_mul-wide : goal.overflow_mul-wide
 overflow_mul-wide c = omega (arith, lengths_here (read (goal.at.overflow_mul-wide c).After-wide))
 
+pub slice_bounds-copy-end : goal.slice_bounds-copy-end
+slice_bounds-copy-end c = omega (arith, part_here (goal.at.slice_bounds-copy-end c).After-wide)
+
 pub copy-requires : goal.copy-requires
 copy-requires c =
     let here = c in
@@ -88,8 +91,11 @@ copy-requires c =
       arith,
       lengths_here (read (goal.at.copy-requires here).After-wide),
       part_length entry.args.logs.now from (from + here.wide.result * 2) _ _ part.0 part.1 part.2,
-      entry.requires.1.exact.history-1,
+      entry.requires.1.exact.history,
     )
+
+pub slice_bounds-clear-end : goal.slice_bounds-clear-end
+slice_bounds-clear-end c = omega (arith, part_here (goal.at.slice_bounds-clear-end c).After-wide)
 
 pub offset_bounds-lengths-worker-2 : goal.offset_bounds-lengths-worker-2
 offset_bounds-lengths-worker-2 c = omega (arith, (lengths_here (read (placed c))).4, (start (read (placed c))).well_formed)
@@ -103,7 +109,7 @@ overflow_add-lengths c = omega (arith, lengths_here (read (placed c)))
 pub offset_bounds-lengths-last-2 : goal.offset_bounds-lengths-last-2
 offset_bounds-lengths-last-2 c =
     let entry = start (read (placed c)) in
-    omega (arith, (read (placed c)).wide-last.ensures, entry.requires.1.exact.lengths, entry.good)
+    omega (arith, (read (placed c)).wide-last.ensures, entry.requires.1.exact.lengths, entry.well_formed)
 
 pub bounds-lengths-last-2 : goal.bounds-lengths-last-2
 bounds-lengths-last-2 c =
@@ -114,8 +120,8 @@ pub made_by-requires : goal.made_by-requires
 made_by-requires c =
     let entry = start (read (placed (goal.at.made_by-requires c).After-slice_known-9-1)) in
     let known = entry.requires.1 in (
-      known.exact.candidates-1 ∙ ap word_count (sym known.exact.makers-1),
-      omega (arith, known.exact.makers-1, (bounds entry.args.s known.sizes).n_most),
+      known.exact.candidates ∙ ap word_count (sym known.exact.makers),
+      omega (arith, known.exact.makers, (bounds entry.args.s known.sizes).n_most),
       omega (arith, position_known known 2 entry.requires.2, (bounds entry.args.s known.sizes).w_most),
     )
 

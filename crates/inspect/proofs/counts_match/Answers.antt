@@ -16,10 +16,7 @@ use Rattle.inspect.proofs.Tested.{below_more}
 use Rattle.inspect.proofs.Most.{most_at}
 use Rattle.inspect.proofs.counts_match.Goals as goal
 use Rattle.inspect.proofs.counts_match.Goals.{Start}
-
--- the count of one record
-abbrev matches : List ℕ → List ℕ → ℕ → Bool
-matches counts tally i = eqb (tally_of tally (suc i)) (get_or counts i 0)
+use Rattle.inspect.proofs.counts_match.Invariants.{matches}
 
 most_tallied : (start : Start) (j : ℕ) → get_or start.args.tally.now j 0 ≤ 8208
 most_tallied start j = most_at start.args.tally.now j start.requires.1

@@ -15,6 +15,10 @@ use Rattle.inspect.proofs.Tested.{below_more}
 use Rattle.inspect.proofs.Most.{most_at}
 use Rattle.inspect.proofs.counts_match.Given as goal
 
+-- the count of one record
+abbrev pub matches : List ℕ → List ℕ → ℕ → Bool
+matches counts tally i = eqb (tally_of tally (suc i)) (get_or counts i 0)
+
 abbrev pub invariant-loop-i : goal.invariant-loop-i
 invariant-loop-i l = (l.i ≤ length l.counts) × (l.ok ≡ below l.i (matches l.counts l.tally))
 

@@ -17,7 +17,7 @@ invariant-loop-i l =
     (k : ℕ)
     × (l.i ≡ k * 2)
     × (l.i ≤ length l.list)
-    × (entered_all l.links l.records l.by (entries k l.list) (record { l.ok = true; l.seen = l.initial.seen; l.last = l.initial.last }) ≡ record { l.ok = l.ok; l.seen = l.seen; l.last = l.last })
+    × (entered_all l.links l.records l.by (entries k l.list) (record { ok = true; seen = l.initial.seen; last = l.initial.last }) ≡ record { ok = l.ok; seen = l.seen; last = l.last })
 
 abbrev pub decreases-loop-i : goal.decreases-loop-i
 decreases-loop-i l = length l.list - l.i

@@ -16,7 +16,7 @@ use Rattle.inspect.proofs.inspect.Goals.{After-at_most, After-numbers_fit, After
 
 -- ---- the tests
 
-module _ (start : tie.Start) where
+module _ (start : Start) where
   abbrev tables : Tables
   tables =
       lent start.args.used.now start.args.counts.now start.args.held.now start.args.candidates.now start.args.makers.now start.args.values.now start.args.changed.now start.args.registers.now start.args.snoops.now start.args.logs.now start.args.history.now start.args.lengths.now
@@ -50,7 +50,7 @@ lengths_tested : (c : After-at_most) → c.at_most.result ≡ lengths_test (from
 lengths_tested c = c.at_most.ensures ∙ ap (λ (k : ℕ). every (λ n. leb n k) (from_lengths c).args.lengths.now) c.link_count.ensures.0
 
 lengths_pass : (c : Else-not-at_most) → true ≡ lengths_test (from_lengths (goal.at.Else-not-at_most c).After-at_most)
-lengths_pass c = sym (not-false c.at_most.result c.if-not-at_most.false) ∙ lengths_tested (goal.at.Else-not-at_most c).After-at_most
+lengths_pass c = sym (c.if-not-at_most.false) ∙ lengths_tested (goal.at.Else-not-at_most c).After-at_most
 
 collector_tested : (c : After-phase_fits) → c.phase_fits.result ≡ collector_test (from_collector c)
 collector_tested c =
@@ -58,22 +58,22 @@ collector_tested c =
     c.phase_fits.ensures ∙ ap (λ (i : ℕ). phase_fits start.args.s start.args.c (get_or start.args.lengths.now i 0)) c.wide.ensures
 
 collector_passes : (c : Else-not-phase_fits) → true ≡ collector_test (from_collector (goal.at.Else-not-phase_fits c).After-phase_fits)
-collector_passes c = sym (not-false c.phase_fits.result c.if-not-phase_fits.false) ∙ collector_tested (goal.at.Else-not-phase_fits c).After-phase_fits
+collector_passes c = sym (c.if-not-phase_fits.false) ∙ collector_tested (goal.at.Else-not-phase_fits c).After-phase_fits
 
 numbers_tested : (c : After-numbers_fit) → c.numbers_fit.result ≡ numbers_test (from_numbers c)
 numbers_tested c = c.numbers_fit.ensures (tables (from_numbers c))
 
 numbers_pass : (c : Else-not-numbers_fit) → true ≡ numbers_test (from_numbers (goal.at.Else-not-numbers_fit c).After-numbers_fit)
-numbers_pass c = sym (not-false c.numbers_fit.result c.if-not-numbers_fit.false) ∙ numbers_tested (goal.at.Else-not-numbers_fit c).After-numbers_fit
+numbers_pass c = sym (c.if-not-numbers_fit.false) ∙ numbers_tested (goal.at.Else-not-numbers_fit c).After-numbers_fit
 
 pub returns-then-not-at_most : goal.returns-then-not-at_most
 returns-then-not-at_most c =
-    let fails = sym (not-true c.at_most.result c.if-not-at_most.true) ∙ lengths_tested (goal.at.returns-then-not-at_most c).After-at_most in
+    let fails = sym (c.if-not-at_most.true) ∙ lengths_tested (goal.at.returns-then-not-at_most c).After-at_most in
     decided (from_lengths (goal.at.returns-then-not-at_most c).After-at_most) false _ _ _ fails refl refl refl
 
 pub returns-then-not-phase_fits : goal.returns-then-not-phase_fits
 returns-then-not-phase_fits c =
-    let fails = sym (not-true c.phase_fits.result c.if-not-phase_fits.true) ∙ collector_tested (goal.at.returns-then-not-phase_fits c).After-phase_fits in
+    let fails = sym (c.if-not-phase_fits.true) ∙ collector_tested (goal.at.returns-then-not-phase_fits c).After-phase_fits in
     decided (from_collector (goal.at.returns-then-not-phase_fits c).After-phase_fits) true false _ _ (lengths_pass (goal.at.returns-then-not-phase_fits c).Else-not-at_most) fails refl refl
 
 pub numbers_fit-requires : goal.numbers_fit-requires
@@ -81,7 +81,7 @@ numbers_fit-requires c = let exact = (from_collector (goal.at.numbers_fit-requir
 
 pub returns-then-not-numbers_fit : goal.returns-then-not-numbers_fit
 returns-then-not-numbers_fit c =
-    let fails = sym (not-true c.numbers_fit.result c.if-not-numbers_fit.true) ∙ numbers_tested (goal.at.returns-then-not-numbers_fit c).After-numbers_fit in
+    let fails = sym (c.if-not-numbers_fit.true) ∙ numbers_tested (goal.at.returns-then-not-numbers_fit c).After-numbers_fit in
     decided (from_numbers (goal.at.returns-then-not-numbers_fit c).After-numbers_fit) true true false _ (lengths_pass (goal.at.returns-then-not-numbers_fit c).Else-not-at_most) (collector_passes (goal.at.returns-then-not-numbers_fit c).Else-not-phase_fits) fails refl
 
 pub links_fit-requires : goal.links_fit-requires

@@ -23,48 +23,48 @@ use Rattle.inspect.proofs.Noting.{entries_most, length-entered}
 use Rattle.inspect.proofs.Logs.{all_logs_most}
 use Rattle.inspect.proofs.Links.{Cut, cut_order, links_checked}
 use Rattle.inspect.proofs.links_fit.Goals as goal
-use Rattle.inspect.proofs.links_fit.Goals.{After-enter-cleared, After-enter-counted, After-enter-uncleared, After-enter_logs-logged, After-wide-end}
+use Rattle.inspect.proofs.links_fit.Goals.{After-enter-cleared, After-enter-counted, After-enter-uncleared, After-enter_logs-logged, After-wide-end, Start}
 
 -- ---- where the history is cut
 
-module _ (c : tie.After-wide4) where
-  abbrev start : tie.Start
-  start = c.before.before.before.before.before.before.before.before.before.before.before.before.before.before
+module _ (c : After-wide-end) where
+  abbrev start : Start
+  start = (goal.at.After-wide-end c).Start
 
   abbrev tables : Tables
   tables =
-      links_on start.args.counts.now start.args.values.now start.args.changed.now start.args.logs.now start.args.history.now start.args.lengths.now start.pre.0
+      links_on start.args.counts.now start.args.values.now start.args.changed.now start.args.logs.now start.args.history.now start.args.lengths.now start.requires.0
 
   abbrev history : List ℕ
   history = start.args.history.now
 
   fits : Fits start.args.s tables start.args.c
-  fits = start.pre.1
+  fits = start.requires.1
 
   abbrev to : ℕ
-  to = c.before.before.before.wide2.result
+  to = c.wide-to.result
 
   abbrev from : ℕ
-  from = c.before.wide3.result
+  from = c.wide-from.result
 
   abbrev end : ℕ
-  end = c.wide4.result
+  end = c.wide-end.result
 
   cut : Cut start.args.s tables start.args.c to from end
   cut =
       let lengths = start.args.lengths.now in
-      let last = c.before.before.before.before.before.before.wide.ensures in
+      let last = c.wide.ensures in
       record {
-        counted = c.before.before.before.wide2.ensures ∙ c.before.before.before.before.counted-to.ensures;
-        uncleared = c.before.wide3.ensures ∙ c.before.before.uncleared-from.ensures ∙ ap (λ (i : ℕ). uncleared_from start.args.c (get_or lengths i 0)) last;
-        whole = c.wide4.ensures ∙ ap (λ (i : ℕ). get_or lengths i 0) last;
+        counted = c.wide-to.ensures ∙ c.counted_to.ensures;
+        uncleared = c.wide-from.ensures ∙ c.uncleared_from.ensures ∙ ap (λ (i : ℕ). uncleared_from start.args.c (get_or lengths i 0)) last;
+        whole = c.wide-end.ensures ∙ ap (λ (i : ℕ). get_or lengths i 0) last;
       }
 
   order : (to ≤ from) × (from ≤ end) × (end ≤ 8208) × (end * 2 ≤ length history)
   order = cut_order fits cut
 
-  same : c.before.before.before.before.before.before.before.link-count.result ≡ links start.args.s
-  same = c.before.before.before.before.before.before.before.link-count.ensures.0
+  same : c.link_count-links.result ≡ links start.args.s
+  same = c.link_count-links.ensures.0
 
   right : LogTables start.args.s start.args.logs.now start.args.lengths.now
   right = record { sizes = fits.sizes; exact = fits.exact.logs; counted = fits.exact.lengths; low = fits.low }
@@ -91,10 +91,10 @@ pub overflow_mul-end : goal.overflow_mul-end
 overflow_mul-end c = omega (arith, order c)
 
 pub slice_bounds-enter-end : goal.slice_bounds-enter-end
-slice_bounds-enter-end c = sym (counted_long c)
+slice_bounds-enter-end c = sym (counted_long (goal.at.slice_bounds-enter-end c).After-wide-end)
 
 pub enter-counted-requires : goal.enter-counted-requires
-enter-counted-requires c = (0, most_zeros 0 8208, omega (arith, counted_long c, order c))
+enter-counted-requires c = (0, most_zeros 0 8208, omega (arith, counted_long (goal.at.enter-counted-requires c).After-wide-end, order (goal.at.enter-counted-requires c).After-wide-end))
 
 -- ---- after the counted entries
 
@@ -131,13 +131,19 @@ enter_logs-logged-requires c =
 
 -- ---- after the logs
 
-logged_most : (c : After-enter_logs-logged) → Most (most_logged (cutting (counting c))) c.enter_logs-logged.new.last.0
+logged_most : (c : After-enter_logs-logged) → Most (most_logged (cutting (counting c))) c.enter_logs-logged.new.seen
 logged_most c =
     let at = cutting (counting c) in
     all_logs_most (right at) _ (most_counted at) c.enter_logs-logged.ensures.1 (counted_most (counting c))
 
 pub slice_bounds-enter-count : goal.slice_bounds-enter-count
 slice_bounds-enter-count c = omega (arith, order (cutting (counting (goal.at.slice_bounds-enter-count c).After-enter_logs-logged)))
+
+pub slice_bounds-enter-start : goal.slice_bounds-enter-start
+slice_bounds-enter-start c = omega (arith, order (cutting (counting (goal.at.slice_bounds-enter-start c).After-enter_logs-logged)))
+
+pub slice_bounds-enter-end-2 : goal.slice_bounds-enter-end-2
+slice_bounds-enter-end-2 c = omega (arith, order (cutting (counting (goal.at.slice_bounds-enter-end-2 c).After-enter_logs-logged)))
 
 pub enter-cleared-requires : goal.enter-cleared-requires
 enter-cleared-requires c =
@@ -156,6 +162,12 @@ cleared_most c =
 pub slice_bounds-enter-count-2 : goal.slice_bounds-enter-count-2
 slice_bounds-enter-count-2 c = omega (arith, order (cutting (counting (logging (goal.at.slice_bounds-enter-count-2 c).After-enter-cleared))))
 
+pub slice_bounds-enter-start-2 : goal.slice_bounds-enter-start-2
+slice_bounds-enter-start-2 c = omega (arith, order (cutting (counting (logging (goal.at.slice_bounds-enter-start-2 c).After-enter-cleared))))
+
+pub slice_bounds-enter-end-3 : goal.slice_bounds-enter-end-3
+slice_bounds-enter-end-3 c = omega (arith, order (cutting (counting (logging (goal.at.slice_bounds-enter-end-3 c).After-enter-cleared))))
+
 pub enter-uncleared-requires : goal.enter-uncleared-requires
 enter-uncleared-requires c =
     let at = cutting (counting (logging (goal.at.enter-uncleared-requires c).After-enter-cleared)) in
@@ -172,6 +184,9 @@ offset_bounds-history-end c = omega (arith, order (entering c))
 
 pub slice_bounds-all_zero-count : goal.slice_bounds-all_zero-count
 slice_bounds-all_zero-count c = (order (entering c)).3
+
+pub slice_bounds-all_zero-start : goal.slice_bounds-all_zero-start
+slice_bounds-all_zero-start c = (order (entering c)).3
 
 pub unused_off-unused-requires : goal.unused_off-unused-requires
 unused_off-unused-requires c = let at = entering (goal.at.unused_off-unused-requires c).After-enter-uncleared in (fits at).exact.changed ∙ ap word_count (sym (same at))
@@ -201,7 +216,7 @@ returns c t =
     let at = cutting first in
     links_checked (fits at) (cut at) (same at)
     (first.enter-counted.ensures (to at) (counted_long at))
-    (logs.take_values-valued.ensures first.enter-counted.last.0)
+    (logs.take_values-valued.ensures first.enter-counted.new.seen)
     (logs.enter_logs-logged.ensures.1, logs.enter_logs-logged.ensures.2)
     (middle.enter-cleared.ensures (from at - to at) (part_long at (to at) (from at) (order at).1))
     (last.enter-uncleared.ensures (end at - from at) (part_long at (from at) (end at) (le_refl (end at))))
@@ -209,5 +224,5 @@ returns c t =
     c.all_zero-padded.ensures
     c.unused_off-unused.ensures
     c.marks_match-marked.ensures
-    (c.tally_links.ensures.0 ∙ ap (λ (n : ℕ). tallied last.enter-uncleared.new.last.0 n (replicate 8320 0)) c.wide-2.ensures)
+    (c.tally_links.ensures.0 ∙ ap (λ (n : ℕ). tallied last.enter-uncleared.new.last n (replicate 8320 0)) c.wide-2.ensures)
     c.counts_match-matched.ensures

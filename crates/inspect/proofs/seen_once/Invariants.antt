@@ -10,7 +10,7 @@ use Rattle.inspect.proofs.Tested.{below_more}
 use Rattle.inspect.proofs.seen_once.Given as goal
 
 abbrev pub invariant-loop-i : goal.invariant-loop-i
-invariant-loop-i l = (l.i ≤ 64) × (l.ok ≡ below l.i (λ l. is_once (get_or l.seen (l.from + l) 0)))
+invariant-loop-i state = (state.i ≤ 64) × (state.ok ≡ below state.i (λ l. is_once (get_or state.seen (state.from + l) 0)))
 
 abbrev pub decreases-loop-i : goal.decreases-loop-i
 decreases-loop-i l = 64 - l.i

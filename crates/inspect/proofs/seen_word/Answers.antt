@@ -16,9 +16,7 @@ use Rattle.inspect.specs.Lent.{is_standing}
 use Rattle.inspect.proofs.Seen.{seen_bit}
 use Rattle.inspect.proofs.seen_word.Goals as goal
 use Rattle.inspect.proofs.seen_word.Goals.{After-loop-i}
-
-abbrev standing : List ℕ → ℕ → List Bool
-standing seen from = map is_standing (drop from seen)
+use Rattle.inspect.proofs.seen_word.Invariants.{standing}
 
 pub loop-i-init : goal.loop-i-init
 unfolding number

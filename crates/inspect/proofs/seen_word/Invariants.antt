@@ -16,6 +16,9 @@ use Rattle.inspect.specs.Lent.{is_standing}
 use Rattle.inspect.proofs.Seen.{seen_bit}
 use Rattle.inspect.proofs.seen_word.Given as goal
 
+abbrev pub standing : List ℕ → ℕ → List Bool
+standing seen from = map is_standing (drop from seen)
+
 abbrev pub invariant-loop-i : goal.invariant-loop-i
 invariant-loop-i l =
     (l.i ≤ 32) × (l.low ≡ number l.i (standing l.seen l.from)) × (l.high ≡ number l.i (drop 32 (standing l.seen l.from)))

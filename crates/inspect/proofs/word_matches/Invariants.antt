@@ -16,7 +16,7 @@ use Rattle.inspect.proofs.Tested.{below_more}
 use Rattle.inspect.proofs.word_matches.Given as goal
 
 abbrev pub invariant-loop-i : goal.invariant-loop-i
-invariant-loop-i l = (l.i ≤ l.many) × (l.ok ≡ below l.i (λ l. matches l.changed l.seen (l.at * 64 + l)))
+invariant-loop-i state = (state.i ≤ state.many) × (state.ok ≡ below state.i (λ l. matches state.changed state.seen (state.at * 64 + l)))
 
 abbrev pub decreases-loop-i : goal.decreases-loop-i
 decreases-loop-i l = l.many - l.i

@@ -18,10 +18,7 @@ use Rattle.reclaim.specs.Lent.{InPool, Leaves}
 use Rattle.reclaim.proofs.Emptied.{emptied_tables, emptied_first, emptied_next, emptied-over, Fit, value_low, value-fits}
 use Rattle.reclaim.proofs.empties.Goals as goal
 use Rattle.reclaim.proofs.empties.Goals.{After-is_on, After-wide-link}
-
--- tables of which these four are at hand
-abbrev among : (counts candidates values changed : List ℕ) → Tables → Tables
-among counts candidates values changed t = put_counts counts (put_candidates candidates (put_values values (put_changed changed t)))
+use Rattle.reclaim.proofs.empties.Invariants.{among}
 
 pub loop-f-init : goal.loop-f-init
 loop-f-init c =
@@ -78,8 +75,8 @@ falls-requires c =
     (changed_stands start.args.s _ start.requires.1 (link_number start.args.s start.args.a at.f) (link_inside start.args.s start.args.a at.f inside.some inside.low (omega arith)) ∙ sym (changed_is (goal.at.falls-requires tested).After-is_on) ∙ branch.if-is_on.false)
     u
     (at.invariant.4 t start.requires.1 inside)) in (
-      omega (arith, fit.0, inside.known.exact.counts-1),
-      at.invariant.2 ∙ inside.known.exact.candidates-1 ∙ ap word_count (sym (at.invariant.1 ∙ inside.known.exact.counts-1)),
+      omega (arith, fit.0, inside.known.exact.counts),
+      at.invariant.2 ∙ inside.known.exact.candidates ∙ ap word_count (sym (at.invariant.1 ∙ inside.known.exact.counts)),
       fit.1,
     )
 
@@ -96,7 +93,7 @@ loop-f-preserved c =
     let u : Tables → Tables = among at.counts at.candidates at.values changed in (
       omega arith,
       falls.auto.counts ∙ at.invariant.1,
-      falls.auto.candidates.0 ∙ at.invariant.2,
+      falls.auto.candidates ∙ at.invariant.2,
       length-set at.values place 0 ∙ at.invariant.3,
       λ t c' inside.
           emptied_next _ start.s start.a at.f _ (u t)

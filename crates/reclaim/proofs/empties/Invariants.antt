@@ -17,6 +17,10 @@ use Rattle.reclaim.specs.Lent.{InPool, Leaves}
 use Rattle.reclaim.proofs.Emptied.{emptied_tables, emptied_first, emptied_next, emptied-over, Fit, value_low, value-fits}
 use Rattle.reclaim.proofs.empties.Given as goal
 
+-- tables of which these four are at hand
+abbrev pub among : (counts candidates values changed : List ℕ) → Tables → Tables
+among counts candidates values changed t = put_counts counts (put_candidates candidates (put_values values (put_changed changed t)))
+
 abbrev pub invariant-loop-f : goal.invariant-loop-f
 invariant-loop-f l =
     (l.f ≤ l.s.k)

@@ -29,8 +29,8 @@ returns c t c' asked =
     let off : (marks : List ℕ) → marked marks place.result false ≡ mark_record marks a false =
     λ marks. mark_place marks a place.result false asked.inside.some place.ensures in
     let shaped = asked.inside.known.tables.sound.shaped.records in
-    let candidates = empties.new.candidates.1.0 in
-    let rest : Tables = put_counts empties.new.candidates.0 (put_values empties.new.candidates.1.1.0 (put_changed start.changed.now t)) in
+    let candidates = empties.new.candidates in
+    let rest : Tables = put_counts empties.new.counts (put_values empties.new.values (put_changed start.changed.now t)) in
     freed_next start.s start.a (pool_of start.s (frees_on start.used.now start.counts.now start.candidates.now start.values.now start.changed.now t) c')
     (put_used used (put_candidates candidates rest))
     (omega (arith, shaped.used, asked.inside.low))

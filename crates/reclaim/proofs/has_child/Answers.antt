@@ -15,10 +15,7 @@ use Rattle.tables.specs.Lie.{is_on}
 use Rattle.reclaim.proofs.Found.{link_from, links_end, link_holds, links_hold}
 use Rattle.reclaim.proofs.has_child.Goals as goal
 use Rattle.reclaim.proofs.has_child.Goals.{After-link_marks-marks, In-loop-f, Start}
-
--- a link is unchanged and holds a record, by the word of the marks and by where the record's links begin
-abbrev holds : List ℕ → (from marks f : ℕ) → Bool
-holds values from marks f = not (get_or (digits 64 marks) f false) && is_on (get_or values (from + f) 0)
+use Rattle.reclaim.proofs.has_child.Invariants.{holds}
 
 -- ---- from a place back
 
@@ -96,7 +93,7 @@ returns-then-not-has_bit c t c' =
     let low : at.f < start.args.s.k = omega (arith, end_is (goal.at.returns-then-not-has_bit marks).After-link_marks-marks) in
     sym (link_holds start.args.s _ c' start.args.a of-pool.some of-pool.low at.f low
     (sym (holds_is (goal.at.returns-then-not-has_bit marks).After-link_marks-marks at.f low)
-    ∙ (λ j. (ap not (sym c.has_bit.ensures) ∙ c.if-not-has_bit.true) j && not (ne_eqb (get_or start.args.values.now (marks.wide-from.result + at.f) 0) 0 c.if-values-from-eq0.false j))))
+    ∙ (λ j. (ap not (sym c.has_bit.ensures ∙ c.if-not-has_bit.true)) j && not (ne_eqb (get_or start.args.values.now (marks.wide-from.result + at.f) 0) 0 c.if-values-from-eq0.false j))))
 
 pub loop-f-preserved : goal.loop-f-preserved
 loop-f-preserved c =
@@ -104,7 +101,7 @@ loop-f-preserved c =
     let at = tested.loop-f in
     let marks = tested in
     let start = (from_marks (goal.at.loop-f-preserved marks).After-link_marks-marks).args in
-    (omega arith, below_more _ _ at.invariant.1 (ap (λ (b : Bool). b && is_on (get_or start.values.now (marks.wide-from.result + at.f) 0)) (ap not (sym c.has_bit.ensures) ∙ c.if-not-has_bit.false)))
+    (omega arith, below_more _ _ at.invariant.1 (ap (λ (b : Bool). b && is_on (get_or start.values.now (marks.wide-from.result + at.f) 0)) (ap not (sym c.has_bit.ensures ∙ c.if-not-has_bit.false))))
 
 pub returns : goal.returns
 returns c t c' =

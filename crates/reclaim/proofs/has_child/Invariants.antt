@@ -15,6 +15,10 @@ use Rattle.tables.specs.Lie.{is_on}
 use Rattle.reclaim.proofs.Found.{link_from, links_end, link_holds, links_hold}
 use Rattle.reclaim.proofs.has_child.Given as goal
 
+-- a link is unchanged and holds a record, by the word of the marks and by where the record's links begin
+abbrev pub holds : List ℕ → (from marks f : ℕ) → Bool
+holds values from marks f = not (get_or (digits 64 marks) f false) && is_on (get_or values (from + f) 0)
+
 abbrev pub invariant-loop-f : goal.invariant-loop-f
 invariant-loop-f l = (l.f ≤ l.end) × ((g : ℕ) → g < l.f → holds l.values l.from l.marks g ≡ false)
 

@@ -24,13 +24,13 @@ use Rattle.reclaim.proofs.reclaimed.Goals.{After-has_bit, After-is_waiting, At-l
 
 -- ---- from a place back
 
-abbrev from_records : At-records invariant_records decreases_records → Start invariant_records decreases_records
+abbrev from_records : At-records → Start
 from_records c = (goal.at.At-records c).Start
 
-abbrev from_tested : After-is_waiting invariant_records decreases_records → At-records invariant_records decreases_records
+abbrev from_tested : After-is_waiting → At-records
 from_tested c = (goal.at.After-is_waiting c).At-records
 
-abbrev from_links : At-loop-f invariant_records decreases_records → After-is_waiting invariant_records decreases_records
+abbrev from_links : At-loop-f → After-is_waiting
 from_links c = (goal.at.At-loop-f c).After-is_waiting
 
 -- ---- the needs
@@ -53,15 +53,15 @@ is_waiting-requires c =
     )
 
 -- what the tests say
-waiting_is : (c : After-is_waiting invariant_records decreases_records) → let at = from_tested c in
+waiting_is : (c : After-is_waiting) → let at = from_tested c in
     let start = (from_records at).args in
     c.is_waiting.result ≡ waits start.used.now start.counts.now start.held.now start.candidates.now (at.records.a - 1)
 waiting_is c = c.is_waiting.ensures ∙ ap (waits _ _ _ _) c.record_place.ensures
 
-end_is : (c : At-records invariant_records decreases_records) → c.wide-end.result ≡ (from_records c).args.s.k
+end_is : (c : At-records) → c.wide-end.result ≡ (from_records c).args.s.k
 end_is c = c.wide-end.ensures
 
-changed_is : (c : After-has_bit invariant_records decreases_records) → let at = from_tested (from_links (goal.at.After-has_bit c).At-loop-f) in
+changed_is : (c : After-has_bit) → let at = from_tested (from_links (goal.at.After-has_bit c).At-loop-f) in
     let start = (from_records at).args in
     let here : RecordNumber = record_number at.records.a in
     c.has_bit.result ≡ mark_at start.changed.now (link_number start.s here c.loop-f.f).0
@@ -89,7 +89,7 @@ records-preserved-then-not-is_waiting c =
       over.1,
       λ b low some.
           ⊎_elim
-          (λ (here : b < at.a + 1). below_more _ _ at.inv.2 (λ some. inl (sym (waiting_is (goal.at.records-preserved-then-not-is_waiting tested).After-is_waiting) ∙ not-true _ c.if-not-is_waiting.true)) b here some)
+          (λ (here : b < at.a + 1). below_more _ _ at.invariant.2 (λ some. inl (sym (waiting_is (goal.at.records-preserved-then-not-is_waiting tested).After-is_waiting) ∙ c.if-not-is_waiting.true)) b here some)
           (λ (later : at.a + 1 ≤ b). inl (idle_waits start.used.now start.counts.now start.held.now start.candidates.now (b - 1) (over.2 b later low)))
           (below_or_not b (at.a + 1)),
     )
@@ -121,7 +121,7 @@ records-preserved c =
     let at = from_tested (from_links (goal.at.records-preserved links).At-loop-f) in (
       omega arith,
       omega arith,
-      below_more _ _ at.records.inv.2 (λ some.
+      below_more _ _ at.records.invariant.2 (λ some.
           inr (links.loop-f.f, omega (arith, end_is at), sym (changed_is (goal.at.records-preserved marked).After-has_bit) ∙ marked.if-has_bit.true, λ t c'. sym (c.has_child.ensures t c') ∙ c.if-has_child.false)),
     )
 
@@ -145,9 +145,9 @@ returns-then-has_child c t c' known =
     let all : Tables = reclaims_on start.used.now start.counts.now start.held.now start.candidates.now start.values.now start.changed.now t in
     search_finds start.s _ here (omega arith) (omega arith)
     (record_sits start.s all c' here (omega arith) (omega arith)
-    (sym (waiting_is (goal.at.returns-then-has_child entered).After-is_waiting) ∙ not-false _ entered.if-not-is_waiting.false)
+    (sym (waiting_is (goal.at.returns-then-has_child entered).After-is_waiting) ∙ entered.if-not-is_waiting.false)
     (sym (c.has_child.ensures all c') ∙ c.if-has_child.true))
-    (λ b some low. record_fails start.s _ c' b some (omega arith) (at.records.inv.2 b.0 low some))
+    (λ b some low. record_fails start.s _ c' b some (omega arith) (at.records.invariant.2 b.0 low some))
 
 -- no changed mark
 pub returns-after-loop-f : goal.returns-after-loop-f
@@ -159,6 +159,6 @@ returns-after-loop-f c t c' known =
     let here : RecordNumber = record_number at.records.a in
     search_finds start.s _ here (omega arith) (omega arith)
     (record_passes start.s _ c' here (omega arith) (omega arith)
-    (sym (waiting_is (goal.at.returns-after-loop-f entered).After-is_waiting) ∙ not-false _ entered.if-not-is_waiting.false)
+    (sym (waiting_is (goal.at.returns-after-loop-f entered).After-is_waiting) ∙ entered.if-not-is_waiting.false)
     (λ f low. links.loop-f.invariant.1 f (omega (arith, end_is at))))
-    (λ b some low. record_fails start.s _ c' b some (omega arith) (at.records.inv.2 b.0 low some))
+    (λ b some low. record_fails start.s _ c' b some (omega arith) (at.records.invariant.2 b.0 low some))

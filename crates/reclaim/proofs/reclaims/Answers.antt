@@ -19,7 +19,7 @@ pub closes-requires : goal.closes-requires
 closes-requires c =
     let start = c in
     let known = start.requires.1 in
-    (known.exact.candidates-1 ∙ ap word_count (sym known.exact.counts-1), omega (arith, known.exact.counts-1, (bounds start.args.s known.sizes).n_most))
+    (known.exact.candidates ∙ ap word_count (sym known.exact.counts), omega (arith, known.exact.counts, (bounds start.args.s known.sizes).n_most))
 
 pub onward-requires : goal.onward-requires
 onward-requires c =
@@ -69,8 +69,8 @@ returns-then-not-unchanged c t known phase =
     let all : Tables = reclaims_on start.used.now start.counts.now start.held.now start.candidates.now start.values.now start.changed.now t in
     let rest : Tables = put_used start.used.now (put_held start.held.now t) in
     emptied_on known phase search.result (search.ensures t start.c known) (omega (arith, found.if-a-eq0))
-    (sym (branch.unchanged.ensures all start.c) ∙ not-true _ branch.if-not-unchanged.true)
-    (put_counts empties.new.candidates.0 (put_candidates empties.new.candidates.1.0 (put_values empties.new.candidates.1.1.0 (put_changed start.changed.now rest))))
+    (sym (branch.unchanged.ensures all start.c) ∙ branch.if-not-unchanged.true)
+    (put_counts empties.new.counts (put_candidates empties.new.candidates (put_values empties.new.values (put_changed start.changed.now rest))))
     (empties.ensures rest start.c)
     c.stepped-then-not-unchanged.result
     c.stepped-then-not-unchanged.ensures
@@ -84,7 +84,7 @@ frees-requires c =
     let all : Tables = reclaims_on at.used.now at.counts.now at.held.now at.candidates.now at.values.now at.changed.now start.requires.0 in (
       put_held at.held.now start.requires.0,
       at.c,
-      record { inside = inside (goal.at.frees-requires found).Else-a-eq0; unchanged = sym (branch.unchanged.ensures all at.c) ∙ not-false _ branch.if-not-unchanged.false },
+      record { inside = inside (goal.at.frees-requires found).Else-a-eq0; unchanged = sym (branch.unchanged.ensures all at.c) ∙ branch.if-not-unchanged.false },
     )
 
 pub returns : goal.returns
@@ -97,6 +97,6 @@ returns c t known phase =
     let all : Tables = reclaims_on start.used.now start.counts.now start.held.now start.candidates.now start.values.now start.changed.now t in
     let rest : Tables = put_held start.held.now t in
     freed_on known phase search.result (search.ensures t start.c known) (omega (arith, found.if-a-eq0))
-    (sym (branch.unchanged.ensures all start.c) ∙ not-false _ branch.if-not-unchanged.false)
-    (put_used frees.new.counts.0 (put_counts frees.new.counts.1.0 (put_candidates frees.new.counts.1.1.0 (put_values frees.new.counts.1.1.1.0 (put_changed start.changed.now rest)))))
+    (sym (branch.unchanged.ensures all start.c) ∙ branch.if-not-unchanged.false)
+    (put_used frees.new.used (put_counts frees.new.counts (put_candidates frees.new.candidates (put_values frees.new.values (put_changed start.changed.now rest)))))
     (frees.ensures rest start.c)
