@@ -52,6 +52,7 @@ pub struct Read {
 }
 
 // How long the payload of a tag is, of the sizes without a board; 0 where there is no such tag.
+#[tactic(auto, unfolding(crate::specs::Field::payload_of))]
 fn payload_of(tag: u8) -> usize
     ensures { result ≡ payload_of tag }
 {
@@ -75,6 +76,7 @@ fn payload_for(tag: u8, long: u16) -> usize
 }
 
 // "first field not the sizes, or sizes a second time"
+#[tactic(auto, unfolding(crate::specs::Field::misplaced))]
 fn is_misplaced(stage: Stage, tag: u8) -> bool
     ensures { result ≡ misplaced stage tag }
 {
@@ -101,6 +103,7 @@ pub fn four_at(bytes: &[u8], i: usize) -> u32
 }
 
 // The event of a tag, whose bytes behind the step number stand at i.
+#[tactic(auto, unfolding(crate::specs::Field::payload_of, crate::specs::Field::event_at))]
 pub fn event_at(tag: u8, bytes: &[u8], i: usize) -> Event
     requires { i + payload_of tag ≤ length bytes.now + 4 }
     ensures { result ≡ event_at tag bytes.now i }

@@ -93,8 +93,8 @@ pub returns-in-Old : goal.returns-in-Old
 returns-in-Old c =
     let at = c in
     let old = c.in-Old.is in
-    look_up_found (start (goal.at.returns-in-Old at).After-wide-in-loop-w).args.l (logs (goal.at.returns-in-Old at).After-wide-in-loop-w) (worker (goal.at.returns-in-Old at).After-wide-in-loop-w) (here (goal.at.returns-in-Old at).After-wide-in-loop-w) (start (goal.at.returns-in-Old at).After-wide-in-loop-w).requires.one old.0.0
-    (λ b. says (goal.at.returns-in-Old c).After-find-found b ∙ ap (λ found. old_or found b) old.1)
+    look_up_found (start (goal.at.returns-in-Old at).After-wide-in-loop-w).args.l (logs (goal.at.returns-in-Old at).After-wide-in-loop-w) (worker (goal.at.returns-in-Old at).After-wide-in-loop-w) (here (goal.at.returns-in-Old at).After-wide-in-loop-w) (start (goal.at.returns-in-Old at).After-wide-in-loop-w).requires.one c.in-Old.a
+    (λ b. says (goal.at.returns-in-Old c).After-find-found b ∙ ap (λ found. old_or found b) old)
 
 pub loop-w-preserved : goal.loop-w-preserved
 loop-w-preserved c =

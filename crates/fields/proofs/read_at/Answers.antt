@@ -14,14 +14,14 @@ returns-then-place-bytes c =
     let at = c.args in
     c.refused_at.ensures
     ∙ behind_end_lem at.bytes.now at.place at.reader true
-    c.enum_told-1.given.1
+    c.in-Ended.is
     (lt-ltb at.place (length at.bytes.now) c.if-place-bytes.true)
 
 pub returns-in-Ended : goal.returns-in-Ended
 returns-in-Ended c =
     let at = c.args in
     behind_end_lem at.bytes.now at.place at.reader false
-    c.enum_told-1.given.1
+    c.in-Ended.is
     (le-ltb at.place (length at.bytes.now) c.if-place-bytes.false)
 
 pub returns : goal.returns
@@ -29,4 +29,4 @@ returns c =
     let at = c.args in
     c.read_field.ensures
     ∙ before_end at.bytes.now at.place at.reader
-    (λ e. miss (0 ∷ 1 ∷ []) 2 tt (rw e at c.in_default.keys2))
+    c.in_default.not-Ended

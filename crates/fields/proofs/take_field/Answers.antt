@@ -28,7 +28,7 @@ returns-then-not-in_range c =
     c.if-tag-eq1.true
     c.sizes_at-s.ensures
     c.in_range.ensures
-    c.if-not-in_range.true
+    (ap not c.if-not-in_range.true)
 
 pub returns-then-tag-eq1 : goal.returns-then-tag-eq1
 returns-then-tag-eq1 c =
@@ -39,7 +39,7 @@ returns-then-tag-eq1 c =
     c.if-tag-eq1.true
     c.sizes_at-s.ensures
     c.in_range.ensures
-    c.if-not-in_range.false
+    (ap not c.if-not-in_range.false)
 
 pub four_at-step-requires : goal.four_at-step-requires
 four_at-step-requires c =
