@@ -63,6 +63,7 @@ fn taken_at(before: u16, had: u16, has: u16) -> u64
 }
 
 // "the answer is the record freed, otherwise 0"
+#[tactic(auto, unfolding(crate::specs::Cycles::freed_by))]
 fn freed_by(answer: Answer) -> u64
     ensures { result ≡ freed_by answer }
 {

@@ -11,4 +11,4 @@ pub returns : goal.returns
 returns c =
     let t = c.args.t in
     ap (λ (z : ℤ). record { taken = t.taken; freed = t.freed; net = z })
-    (to_z-of_z {w = w32} (record { sfits = c.net_of-net.type-inv }) ∙ c.net_of-net.ensures ∙ ap (λ n. less n t.opening) c.count_sum.ensures.all)
+    (to_z-of_z {w = w32} (record { sfits = c.net_of-net.type_inv }) ∙ c.net_of-net.ensures ∙ ap (λ n. less n t.opening) c.count_sum.ensures.all)

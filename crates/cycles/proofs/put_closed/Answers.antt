@@ -8,22 +8,23 @@ use Rattle.cycles.specs.Cycles.{sum}
 use Rattle.cycles.specs.Slice.{closed_now, Puts}
 use Rattle.cycles.proofs.Placed.{long_put, closed_here, closed_past, closed_none}
 use Rattle.cycles.proofs.put_closed.Goals as goal
+use Rattle.cycles.proofs.put_closed.Goals.{then-cycles-numbers, else-cycles-numbers}
 
 pub put_cycle-requires : goal.put_cycle-requires
 put_cycle-requires c =
     let start = c in
     let few = start.requires.few in
-    (omega arith, (omega (arith, ap (λ x. x.taken) c.closed_cycle.ensures, few.taken), omega (arith, ap (λ x. x.freed) c.closed_cycle.ensures, few.freed)))
+    record { at_in_bounds = omega arith; taken_bound = (omega (arith, ap (λ x. x.taken) c.closed_cycle.ensures, few.taken), omega (arith, ap (λ x. x.freed) c.closed_cycle.ensures, few.freed)) }
 
 pub returns-then-before-after : goal.returns-then-before-after
 returns-then-before-after c =
     let start = c in
     let at = start.args in
     let close = c.if-before-after.true in
-    ⊎_elim
-    (λ w. closed_here at.cycles at.numbers.now at.t (sum at.counts.now) at.before at.after close w.0.taken w.2.ensures (w.5 ∙ w.3.ensures))
-    (λ w. closed_past at.cycles at.numbers.now at.t (sum at.counts.now) at.before at.after close w.0.left w.1)
-    c.if-cycles-numbers.branch
+    elim c.if-cycles-numbers.branch [
+      then-cycles-numbers w ↦ closed_here at.cycles at.numbers.now at.t (sum at.counts.now) at.before at.after close w.if-cycles-numbers.true w.closed_cycle.ensures (w.numbers-is ∙ w.put_cycle.ensures)
+      | else-cycles-numbers w ↦ closed_past at.cycles at.numbers.now at.t (sum at.counts.now) at.before at.after close w.if-cycles-numbers.false w.numbers-is
+    ]
 
 pub shape_of-numbers-then-before-after : goal.shape_of-numbers-then-before-after
 shape_of-numbers-then-before-after c =

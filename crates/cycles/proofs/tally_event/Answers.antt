@@ -5,4 +5,4 @@ use Rattle.cycles.proofs.tally_event.Goals as goal
 pub put_closed-cycles-requires : goal.put_closed-cycles-requires
 put_closed-cycles-requires c =
     let start = c in
-    (start.requires.counts_len_bound, (c.tally_step-tally.ensures.few 4294967295 start.requires.few, start.requires.cycles_bound))
+    record { counts_len_bound = start.requires.counts_len_bound; few = c.tally_step-tally.ensures.few 4294967295 start.requires.few; cycles_bound = start.requires.cycles_bound }

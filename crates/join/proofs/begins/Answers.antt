@@ -1,7 +1,5 @@
 -- `join::begins` meets its contract. Assumes nothing.
 use mathlib.Core.Path.{◌∙◌}
-use mathlib.Core.List.{[], ◌∷◌}
-use types.Run.{miss}
 use Rattle.join.proofs.Reading.{begins_by, begins_missing}
 use borrow.Author.Rules.{rules}
 use Rattle.join.proofs.begins.Goals as goal
@@ -10,4 +8,4 @@ pub returns-in-Sizes : goal.returns-in-Sizes
 returns-in-Sizes c = let at = c.args in c.equal_sizes.ensures ∙ begins_by at.bytes.now at.start at.first c.read_at-x.ensures c.in-Sizes.is
 
 pub returns : goal.returns
-returns c = let at = c.args in begins_missing at.bytes.now at.start at.first c.read_at-x.ensures (λ s e. miss (1 ∷ 2 ∷ 3 ∷ 4 ∷ []) 0 tt (rw e at c.in_default.is))
+returns c = let at = c.args in begins_missing at.bytes.now at.start at.first c.read_at-x.ensures c.in_default.not-Sizes

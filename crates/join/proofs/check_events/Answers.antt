@@ -12,11 +12,11 @@ use Rattle.join.proofs.check_events.Goals as goal
 use Rattle.join.proofs.check_events.Goals.{In-loop-size}
 
 -- the event that is taken has a number above the previous one
-risen : (c : In-loop-size) → c.loop-size.new ≤ c.loop-size.step
+risen : (c : In-loop-size) → c.loop-size.last ≤ c.loop-size.step
 risen c =
     let at = c.loop-size in
     let start = c.args in
-    rises start.bytes.now at.at at.new at.events start.same 0 at.invariant.0 at.invariant.1 c.loop-size-test.true
+    rises start.bytes.now at.at at.last at.events start.same 0 at.invariant.0 at.invariant.1 c.loop-size-test.true
 
 pub loop-size-init : goal.loop-size-init
 loop-size-init c = let bytes = c.args.bytes.now in let place = c.args.place in let same = c.args.same in let pre = c.requires in (c.expect_at-step.ensures, c.event_size-size.ensures, search rules, search rules, omega arith, omega arith, (length bytes - 1, omega arith, ap (λ (n : ℕ). seen_from same (events_told n bytes place 0 0)) (let on : length bytes ≡ suc (length bytes - 1) = omega arith in on)))
@@ -50,7 +50,7 @@ loop-size-preserved c =
         turns - 1,
         omega arith,
         at.invariant.6.2
-            ∙ told_event start.bytes.now at.at at.new at.events start.same turns at.invariant.0 at.invariant.1 some
+            ∙ told_event start.bytes.now at.at at.last at.events start.same turns at.invariant.0 at.invariant.1 some
             ∙ ap (λ (n : ℕ). seen_from start.same (events_told n start.bytes.now (at.at + at.size) (at.step + 1) (at.events + 1)))
             (let on : turns ≡ suc (turns - 1) = omega arith in on),
       ),
@@ -61,5 +61,5 @@ returns c =
     let at = c.loop-size in
     let start = c.args in
     c.check_end.ensures
-    ∙ told_end start.bytes.now at.at at.new at.events start.same at.invariant.6.0 at.invariant.0 at.invariant.1 c.loop-size-test.false
+    ∙ told_end start.bytes.now at.at at.last at.events start.same at.invariant.6.0 at.invariant.0 at.invariant.1 c.loop-size-test.false
     ∙ sym at.invariant.6.2

@@ -26,12 +26,11 @@ pub returns-in-Sizes : goal.returns-in-Sizes
 returns-in-Sizes c =
     let at = c.args in
     let read = c.read_at-x in
-    let sizes = c.field-1.given in
     c.check_events.ensures
     ∙ ap (λ (same : Bool). seen_from same (events_told (length at.bytes.now) at.bytes.now read.result.next 0 0)) c.equal_sizes.ensures
-    ∙ seen_part_lem at.first sizes.0.0 (between at.bytes.now at.start read.result.next)
+    ∙ seen_part_lem at.first c.in-Sizes.s (between at.bytes.now at.start read.result.next)
     (events_told (length at.bytes.now) at.bytes.now read.result.next 0 0)
-    ∙ ap (seen_part at.first) (part_by at.bytes.now at.start read.ensures sizes.1)
+    ∙ ap (seen_part at.first) (part_by at.bytes.now at.start read.ensures c.in-Sizes.is)
 
 pub returns-in-Refused : goal.returns-in-Refused
 returns-in-Refused c = let at = c.args in ap (seen_part at.first) (part_by at.bytes.now at.start c.read_at-x.ensures c.in-Refused.is)

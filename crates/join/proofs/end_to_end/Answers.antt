@@ -40,5 +40,5 @@ returns c =
     let at = c.loop-i in
     let parts = c.args.parts.now in
     let lengths = c.args.lengths.now in
-    left_over parts lengths (omega arith) (omega arith) at.false
+    left_over parts lengths (omega arith) (omega arith) at.left
     (rw (← (take_all at.i lengths (omega arith))) at.invariant.1)

@@ -1,19 +1,18 @@
 -- `join::expect_at` meets its contract. Assumes nothing.
 use native.Mathlib.Omega.{arith}
 use mathlib.Core.Path.{◌≡◌}
-use mathlib.Core.Logic.{⊎_elim}
 use lib.ListN.{get_or-eq_default}
 use Rattle.fields.specs.Field.{byte_at, end_tag}
 use Rattle.join.proofs.Reading.{expects_end, expects_next, expects_last}
 use borrow.Author.Rules.{rules}
 use Rattle.join.proofs.expect_at.Goals as goal
-use Rattle.join.proofs.expect_at.Goals.{Joined-place-bytes}
+use Rattle.join.proofs.expect_at.Goals.{Joined-place-bytes, then-place-bytes+else-bytes-place-eq127, else-place-bytes}
 
 -- where the tag was asked it is not the end's, and past the bytes there is none
 no_end : (c : Joined-place-bytes) → byte_at c.args.bytes.now c.args.place ≡ end_tag → ⊥
 no_end c =
     let at = c.args in
-    ⊎_elim (λ w. w.2.left) (λ w e. omega (arith, get_or-eq_default at.bytes.now 0 w.left)) c.if-place-bytes.branch
+    elim c.if-place-bytes.branch [ then-place-bytes+else-bytes-place-eq127 w ↦ w.if-bytes-place-eq127.false | else-place-bytes w ↦ λ e. omega (arith, get_or-eq_default at.bytes.now 0 w.if-place-bytes.false) ]
 
 pub returns-then-bytes-place-eq127 : goal.returns-then-bytes-place-eq127
 returns-then-bytes-place-eq127 c = let at = c.args in expects_end at.bytes.now at.place at.last at.events c.if-bytes-place-eq127.true

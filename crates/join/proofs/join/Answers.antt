@@ -34,7 +34,7 @@ end_inside c =
 
 -- they merge
 merged : (c : Else-not-merged) → Merges c.sizes_of-first.result c.args.parts.now c.args.lengths.now c.measure-merged.result.size
-merged c = c.measure-merged.ensures.merges (c.if-not-merged.false)
+merged c = c.measure-merged.ensures.merges (not-false _ c.if-not-merged.false)
 
 size_is : (c : After-behind_sizes-opened)
     → (length (joined_trace (merged (goal.at.After-behind_sizes-opened c).Else-not-merged).told) ≡ c.behind_sizes-opened.result + c.measure-merged.result.size + 7) × (c.behind_sizes-opened.result ≤ length c.args.parts.now)
@@ -60,7 +60,7 @@ refuse-requires c = sym (is_lent (goal.at.refuse-requires c).Else-not-end_to_end
 pub returns-then-not-merged : goal.returns-then-not-merged
 returns-then-not-merged c =
     let args = c.args in
-    not_merged args.parts.now args.lengths.now args.out.now (is_lent (goal.at.returns-then-not-merged c).Else-not-end_to_end) (lent (goal.at.returns-then-not-merged c).Else-not-end_to_end) c.sizes_of-first.ensures c.measure-merged.ensures (c.if-not-merged.true)
+    not_merged args.parts.now args.lengths.now args.out.now (is_lent (goal.at.returns-then-not-merged c).Else-not-end_to_end) (lent (goal.at.returns-then-not-merged c).Else-not-end_to_end) c.sizes_of-first.ensures c.measure-merged.ensures (not-true _ c.if-not-merged.true)
     ∙ ap (λ (x : Joined). record { joined = x; out = args.out.now }) (sym c.refuse.ensures)
 
 pub slice_bounds-behind_sizes-end : goal.slice_bounds-behind_sizes-end
@@ -78,15 +78,15 @@ returns-then-out-opened c =
     too_short args.parts.now args.lengths.now args.out.now (is_lent (goal.at.returns-then-out-opened c).Else-not-end_to_end) (lent (goal.at.returns-then-out-opened c).Else-not-end_to_end) c.sizes_of-first.ensures (merged (goal.at.returns-then-out-opened c).Else-not-merged) (let long = (size_is (goal.at.returns-then-out-opened c).After-behind_sizes-opened).0 in omega arith)
 
 pub write_joined-requires : goal.write_joined-requires
-write_joined-requires c = (
-  sym (is_lent (goal.at.write_joined-requires c).Else-not-end_to_end),
-  record {
+write_joined-requires c = record {
+  lengths_value = sym (is_lent (goal.at.write_joined-requires c).Else-not-end_to_end);
+  ready = record {
     told = (merged (goal.at.write_joined-requires c).Else-not-merged).told;
     reads = (merged (goal.at.write_joined-requires c).Else-not-merged).reads;
     numbers = (merged (goal.at.write_joined-requires c).Else-not-merged).numbers;
     room = let long = (size_is (goal.at.write_joined-requires c).After-behind_sizes-opened).0 in omega arith;
-  },
-)
+  };
+}
 
 pub returns : goal.returns
 returns c =

@@ -32,25 +32,25 @@ pub next_part-x-requires : goal.next_part-x-requires
 next_part-x-requires c = within _ _ (lent (start (goal.at.next_part-x-requires c).At-loop-i)) c.loop-i.invariant.1
 
 pub offset_bounds-places-i : goal.offset_bounds-places-i
-offset_bounds-places-i c = omega (arith, (taken (goal.at.offset_bounds-places-i c).Else-more-eq0).part)
+offset_bounds-places-i c = omega (arith, (took _ _ (lent (start (goal.at.offset_bounds-places-i c).At-loop-i)) c.loop-i.invariant.1 c.next_part-x.ensures c.if-more-eq0.false).part)
 
 pub bounds-places-i : goal.bounds-places-i
-bounds-places-i c = (taken (goal.at.bounds-places-i c).Else-more-eq0).part
+bounds-places-i c = (took _ _ (lent (start (goal.at.bounds-places-i c).At-loop-i)) c.loop-i.invariant.1 c.next_part-x.ensures c.if-more-eq0.false).part
 
 pub overflow_add-places : goal.overflow_add-places
-overflow_add-places c = omega (arith, (taken (goal.at.overflow_add-places c).Else-more-eq0).within)
+overflow_add-places c = omega (arith, (took _ _ (lent (start (goal.at.overflow_add-places c).At-loop-i)) c.loop-i.invariant.1 c.next_part-x.ensures c.if-more-eq0.false).within)
 
 pub offset_bounds-places-i-in-loop-i : goal.offset_bounds-places-i-in-loop-i
-offset_bounds-places-i-in-loop-i c = omega (arith, (taken (goal.at.offset_bounds-places-i-in-loop-i c).Else-more-eq0).part)
+offset_bounds-places-i-in-loop-i c = omega (arith, (took _ _ (lent (start (goal.at.offset_bounds-places-i-in-loop-i c).At-loop-i)) c.loop-i.invariant.1 c.next_part-x.ensures c.if-more-eq0.false).part)
 
 pub bounds-places-i-in-loop-i : goal.bounds-places-i-in-loop-i
-bounds-places-i-in-loop-i c = (taken (goal.at.bounds-places-i-in-loop-i c).Else-more-eq0).part
+bounds-places-i-in-loop-i c = (took _ _ (lent (start (goal.at.bounds-places-i-in-loop-i c).At-loop-i)) c.loop-i.invariant.1 c.next_part-x.ensures c.if-more-eq0.false).part
 
 pub offset_bounds-counts-i : goal.offset_bounds-counts-i
-offset_bounds-counts-i c = omega (arith, (taken (goal.at.offset_bounds-counts-i c).Else-more-eq0).part)
+offset_bounds-counts-i c = omega (arith, (took _ _ (lent (start (goal.at.offset_bounds-counts-i c).At-loop-i)) c.loop-i.invariant.1 c.next_part-x.ensures c.if-more-eq0.false).part)
 
 pub bounds-counts-i : goal.bounds-counts-i
-bounds-counts-i c = (taken (goal.at.bounds-counts-i c).Else-more-eq0).part
+bounds-counts-i c = (took _ _ (lent (start (goal.at.bounds-counts-i c).At-loop-i)) c.loop-i.invariant.1 c.next_part-x.ensures c.if-more-eq0.false).part
 
 pub overflow_add-counts : goal.overflow_add-counts
 overflow_add-counts c = omega (arith, (taken c).count, (taken c).follows)

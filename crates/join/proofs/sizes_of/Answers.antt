@@ -1,6 +1,4 @@
 -- `join::sizes_of` meets its contract. Assumes nothing.
-use mathlib.Core.List.{[], ◌∷◌}
-use types.Run.{miss}
 use Rattle.join.proofs.Reading.{sizes_by, sizes_missing}
 use borrow.Author.Rules.{rules}
 use Rattle.join.proofs.sizes_of.Goals as goal
@@ -9,4 +7,4 @@ pub returns-in-Sizes : goal.returns-in-Sizes
 returns-in-Sizes c = let at = c.args in sizes_by at.bytes.now at.start c.read_at-x.ensures c.in-Sizes.is
 
 pub returns : goal.returns
-returns c = let at = c.args in sizes_missing at.bytes.now at.start c.read_at-x.ensures (λ s e. miss (1 ∷ 2 ∷ 3 ∷ 4 ∷ []) 0 tt (rw e at c.in_default.is))
+returns c = let at = c.args in sizes_missing at.bytes.now at.start c.read_at-x.ensures c.in_default.not-Sizes

@@ -28,7 +28,7 @@ lent c = all_lent c.args.parts.now c.args.lengths.now c.requires.lengths_value
 -- the first part's sizes field
 first_is : (c : After-ends-2-1)
     → let start = c in
-    let first = get_or c.lay_out.new.1.1.0 0 0 in
+    let first = get_or c.lay_out.new.places 0 0 in
     (first_field start.requires.ready.told ≡ take first start.args.parts.now) × (first ≤ length start.args.parts.now)
 first_is c =
     first_field_lem _ _ (lent (goal.at.After-ends-2-1 c).Start) c.requires.ready.reads _
@@ -70,10 +70,10 @@ pub next_part-x-requires : goal.next_part-x-requires
 next_part-x-requires c = within _ _ (lent (start (goal.at.next_part-x-requires c).At-loop-places)) c.loop-places.invariant.2
 
 pub offset_bounds-places-i : goal.offset_bounds-places-i
-offset_bounds-places-i c = omega (arith, (taken (goal.at.offset_bounds-places-i c).Else-more-eq0).part)
+offset_bounds-places-i c = omega (arith, (took _ _ (lent (start (goal.at.offset_bounds-places-i c).At-loop-places)) c.loop-places.invariant.2 c.next_part-x.ensures c.if-more-eq0.false).part)
 
 pub bounds-places-i : goal.bounds-places-i
-bounds-places-i c = (taken (goal.at.bounds-places-i c).Else-more-eq0).part
+bounds-places-i c = (took _ _ (lent (start (goal.at.bounds-places-i c).At-loop-places)) c.loop-places.invariant.2 c.next_part-x.ensures c.if-more-eq0.false).part
 
 pub overflow_add-next : goal.overflow_add-next
 overflow_add-next c = omega (arith, (taken c).within)
@@ -144,7 +144,7 @@ shape_of-out c = written_same c.put_end.ensures ∙ (lies_at (goal.at.shape_of-o
 pub returns : goal.returns
 returns c =
     let from = start (goal.at.returns c).At-loop-places in
-    let ready = from.requires.1 in
+    let ready = from.requires.ready in
     let at = c.loop-places in
     let all = text_all _ _ (lent (start (goal.at.returns c).At-loop-places)) ready.reads ready.numbers at.invariant.2 (stuck _ _ (lent (start (goal.at.returns c).At-loop-places)) at.invariant.2 c.next_part-x.ensures c.if-more-eq0.true) in
     let written = written_both c.put_bytes-at.ensures (written_both at.invariant.3 c.put_end.ensures) in
