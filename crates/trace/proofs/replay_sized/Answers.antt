@@ -30,24 +30,24 @@ from_match c = (goal.at.In_default c).After-fresh-made
 -- what `fresh` answered and left
 abbrev made : After-fresh-made → Called
 made c =
-    let last = c.fresh-made.new.1 in
+    let last = c.fresh-made.new in
     record {
       answer = c.fresh-made.result.answer;
       collector = c.fresh-made.result.collector;
       tables =
           record {
-            used = last.0;
-            counts = last.1.0;
-            held = last.1.1.0;
-            candidates = last.1.1.1.0;
-            makers = last.1.1.1.1.0;
-            values = last.1.1.1.1.1.0;
-            changed = last.1.1.1.1.1.1.0;
-            registers = last.1.1.1.1.1.1.1.0;
-            snoops = last.1.1.1.1.1.1.1.1.0;
-            logs = last.1.1.1.1.1.1.1.1.1.0;
-            history = last.1.1.1.1.1.1.1.1.1.1.0;
-            lengths = last.1.1.1.1.1.1.1.1.1.1.1.0;
+            used = last.used;
+            counts = last.counts;
+            held = last.held;
+            candidates = last.candidates;
+            makers = last.makers;
+            values = last.values;
+            changed = last.changed;
+            registers = last.registers;
+            snoops = last.snoops;
+            logs = last.logs;
+            history = last.history;
+            lengths = last.lengths;
           };
     }
 
@@ -56,7 +56,7 @@ begun : (c : In_default) → let call = from_match c in Started (from_fresh call
 begun c =
     let call = from_match c in
     let start = from_fresh call in
-    fresh_starts start.args.s (here start) start.args.c start.requires call.fresh-made.ensures (λ why h. miss (0 ∷ 1 ∷ 2 ∷ 3 ∷ 4 ∷ 5 ∷ 6 ∷ 7 ∷ []) 8 tt (rw h at c.in_default.keys2))
+    fresh_starts start.args.s (here start) start.args.c start.requires call.fresh-made.ensures c.in_default.not-Refused
 
 pub shape_of-used-in-Refused : goal.shape_of-used-in-Refused
 shape_of-used-in-Refused c = c.used-1.given
@@ -98,7 +98,7 @@ pub returns-in-Refused : goal.returns-in-Refused
 returns-in-Refused c =
     let call = c in
     let start = from_fresh (goal.at.returns-in-Refused call).After-fresh-made in
-    fresh-refused start.args.s (here start) start.args.c start.requires call.fresh-made.ensures c.answer-1.given.0.0 c.in-Refused.is
+    fresh-refused start.args.s (here start) start.args.c start.requires call.fresh-made.ensures c.in-Refused.why c.in-Refused.is
     start.args.bytes.now start.args.place start.args.answers.now
 
 pub run_events-ran-requires : goal.run_events-ran-requires
@@ -153,4 +153,4 @@ returns c =
     sized-ends start.requires (begun (goal.at.returns reached).In_default) start.args.c start.args.bytes.now start.args.place start.args.answers.now
     run.run_events-ran.ensures
     c.stand_behind-stood.ensures
-    c.Ending-of.ensures
+    c.ending_of.ensures

@@ -70,7 +70,7 @@ returns-in-Sizes c =
     let call = c in
     let read = call in
     let start = from_read (goal.at.returns-in-Sizes read).After-read_at-first in
-    traced-sized (here start) start.args.c start.args.bytes.now start.args.answers.now read.read_at-first.ensures call.field-1.given.1
+    traced-sized (here start) start.args.c start.args.bytes.now start.args.answers.now read.read_at-first.ensures c.in-Sizes.is
     ∙ call.replay_sized.ensures
 
 pub returns-in-Refused : goal.returns-in-Refused
@@ -83,8 +83,7 @@ pub returns-in_default : goal.returns-in_default
 returns-in_default c =
     let read = c in
     let start = from_read (goal.at.returns-in_default read).After-read_at-first in
-    let keys = c.in_default.is in
     absurd
     (first_only (here start) start.args.c start.args.bytes.now start.args.answers.now read.read_at-first.ensures
-    (λ s h. miss (1 ∷ 2 ∷ 3 ∷ []) 0 tt (rw h at keys))
-    (λ why at h. miss (1 ∷ 2 ∷ 3 ∷ []) 4 tt (rw h at keys)))
+    c.in_default.not-Sizes
+    c.in_default.not-Refused)

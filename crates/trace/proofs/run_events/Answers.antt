@@ -19,20 +19,20 @@ use Rattle.fields.proofs.event_size.Reads as event-size-reads
 use Rattle.reply.proofs.number_of.Reads as number-of-reads
 use Rattle.reply.proofs.value_of.Reads as value-of-reads
 use Rattle.trace.proofs.run_events.Goals as goal
-use Rattle.trace.proofs.run_events.Goals.{Joined-events-room}
+use Rattle.trace.proofs.run_events.Goals.{Joined-events-room, then-events-room, else-events-room}
 use Rattle.trace.proofs.run_events.Invariants.{tables_at}
 
 -- the event's line is put where there is room
 line_put : (c : Joined-events-room)
     → let at = c.loop-s in
-    Puts at.events at.answers c.if-events-room.answers (line_of (at.new + 1) c.event_known-y.result.answer)
+    Puts at.events at.answers c.if-events-room.answers (line_of (at.last + 1) c.event_known-y.result.answer)
 line_put c =
     let at = c.loop-s in
-    let line = line_of (at.new + 1) c.event_known-y.result.answer in
-    ⊎_elim
-    (λ w. put_here at.events line (omega (arith, w.0.taken, at.invariant.half, at.invariant.long)) w.1.ensures w.2.ensures w.3)
-    (λ w. put_past at.events line (omega (arith, w.0.left, at.invariant.half, at.invariant.long)) w.1)
-    c.if-events-room.branch
+    let line = line_of (at.last + 1) c.event_known-y.result.answer in
+    elim c.if-events-room.branch [
+      then-events-room w ↦ put_here at.events line (omega (arith, w.if-events-room.true, at.invariant.half, at.invariant.long)) w.number_of.ensures w.value_of.ensures w.answers-is
+      | else-events-room w ↦ put_past at.events line (omega (arith, w.if-events-room.false, at.invariant.half, at.invariant.long)) w.answers-is
+    ]
 
 pub loop-s-init : goal.loop-s-init
 loop-s-init c =
@@ -128,7 +128,7 @@ pub loop-s-preserved : goal.loop-s-preserved
 loop-s-preserved c =
     let at = c in
     let start = at in
-    goes_on_lem start.args.bytes.now at.loop-s.next at.loop-s.new c.event_size-size.ensures at.loop-s.invariant c.if-size-eq0.false
+    goes_on_lem start.args.bytes.now at.loop-s.next at.loop-s.last c.event_size-size.ensures at.loop-s.invariant c.if-size-eq0.false
     c.event_at-e.ensures
     c.event_known-y.ensures
     (line_put (goal.at.loop-s-preserved c).Joined-events-room)
@@ -176,4 +176,4 @@ pub returns : goal.returns
 returns c =
     let at = c in
     let start = at in
-    going_ends start.args.bytes.now at.loop-s.next at.loop-s.new c.event_size-size.ensures at.loop-s.invariant c.if-size-eq0.true
+    going_ends start.args.bytes.now at.loop-s.next at.loop-s.last c.event_size-size.ensures at.loop-s.invariant c.if-size-eq0.true

@@ -19,12 +19,12 @@ use Rattle.trace.proofs.stand_behind.Lts as lts
 use Rattle.fields.proofs.read_at.Reads as read-at-reads
 use Rattle.fresh.proofs.free_records.Reads as free-records-reads
 use Rattle.trace.proofs.stand_behind.Goals as goal
-use Rattle.trace.proofs.stand_behind.Goals.{Else-last-bytes, Joined-bytes-lt13}
+use Rattle.trace.proofs.stand_behind.Goals.{Else-last-bytes, Joined-bytes-lt13, then-bytes-lt13, else-bytes-lt13}
 
-few : (c : Joined-bytes-lt13) → c.if-bytes-lt13.if2 ≡ ltb (length c.args.bytes.now) (c.loop-fields.next + longest)
+few : (c : Joined-bytes-lt13) → c.if-bytes-lt13.value ≡ ltb (length c.args.bytes.now) (c.loop-fields.next + longest)
 few c =
-    few_left (length c.args.bytes.now) c.loop-fields.next c.if-bytes-lt13.if2
-    (⊎_elim (λ w. inl (w.0.taken, w.1)) (λ w. inr (w.0.left, w.1)) c.if-bytes-lt13.branch)
+    few_left (length c.args.bytes.now) c.loop-fields.next c.if-bytes-lt13.value
+    (elim c.if-bytes-lt13.branch [ then-bytes-lt13 w ↦ inl (w.if-bytes-lt13.true, w.value-is) | else-bytes-lt13 w ↦ inr (w.if-bytes-lt13.false, w.value-is) ])
 
 -- no field is waited for
 goes : (c : Else-last-bytes) → waits c.args.last c.args.bytes.now c.loop-fields.next ≡ false
@@ -102,16 +102,16 @@ loop-fields-preserved c =
     let at = c in
     let start = at in
     let free = free_in start.args.n start.args.used.now in
-    let keys = c.in_default.is in (
+    (
       omega arith,
       sym (stood_out start.args.last free start.args.closed start.args.bytes.now at.loop-fields.next at.loop-fields.now)
           ∙ look_other at.loop-fields.fields start.args.last free start.args.closed start.args.bytes.now at.loop-fields.next at.loop-fields.now
           c.loop-fields-test.true
           (goes (goal.at.loop-fields-preserved c).Else-last-bytes)
           c.read_at-x.ensures
-          (λ h. miss (0 ∷ 1 ∷ []) 2 tt (rw h at keys))
-          (λ h. miss (0 ∷ 1 ∷ []) 3 tt (rw h at keys))
-          (λ why at h. miss (0 ∷ 1 ∷ []) 4 tt (rw h at keys))
+          c.in_default.not-End
+          c.in_default.not-Nothing
+          c.in_default.not-Refused
           ∙ at.loop-fields.invariant.1,
     )
 
