@@ -1,0 +1,172 @@
+-- `tally::report_sized` meets its contract: `fresh` leaves a sound pool where it does not refuse, the events are done and tallied on it, and what stands behind them
+-- says how the trace ends. Assumes nothing.
+use Prim.Native.Nat.{◌*◌, ◌≤◌}
+use mathlib.Core.Path.{◌∙◌}
+use mathlib.Core.List.{[], ◌∷◌}
+use native.Mathlib.Omega.{arith}
+use types.Run.{miss}
+use borrow.Author.Rules.{rules}
+use Rattle.tables.specs.Tables.{Tables, lent}
+use Rattle.tables.specs.Event.{Called}
+use Rattle.trace.proofs.Sized.{Started, fresh_starts, started_known}
+use Rattle.tally.proofs.Whole.{refused_reports, sized_reports}
+use Rattle.tally.proofs.report_sized.Goals as goal
+use Rattle.tally.proofs.report_sized.Goals.{After-fresh-made, After-tally_events-told, In_default, Start}
+
+abbrev here : Start → Tables
+here start =
+    let at = start.args in
+    lent at.used.now at.counts.now at.held.now at.candidates.now at.makers.now at.values.now at.changed.now at.registers.now at.snoops.now at.logs.now at.history.now at.lengths.now
+
+abbrev from_fresh : After-fresh-made → Start
+from_fresh c = (goal.at.After-fresh-made c).Start
+
+abbrev from_match : In_default → After-fresh-made
+from_match c = (goal.at.In_default c).After-fresh-made
+
+-- what `fresh` answered and left
+abbrev made : After-fresh-made → Called
+made c =
+    let last = c.fresh-made.new in
+    record {
+      answer = c.fresh-made.result.answer;
+      collector = c.fresh-made.result.collector;
+      tables =
+          record {
+            used = last.used;
+            counts = last.counts;
+            held = last.held;
+            candidates = last.candidates;
+            makers = last.makers;
+            values = last.values;
+            changed = last.changed;
+            registers = last.registers;
+            snoops = last.snoops;
+            logs = last.logs;
+            history = last.history;
+            lengths = last.lengths;
+          };
+    }
+
+-- it did not refuse
+begun : (c : In_default) → let call = from_match c in Started (from_fresh call).args.s (here (from_fresh call)) (made call)
+begun c =
+    let call = from_match c in
+    let start = from_fresh call in
+    fresh_starts start.args.s (here start) start.args.c start.requires call.fresh-made.ensures (λ why h. miss (0 ∷ 1 ∷ 2 ∷ 3 ∷ 4 ∷ 5 ∷ 6 ∷ 7 ∷ []) 8 tt (rw h at c.in_default.keys2))
+
+-- what the events left
+abbrev left : After-tally_events-told → Tables
+left c =
+    let last = c.tally_events-told.new in
+    record {
+      used = last.used;
+      counts = last.counts;
+      held = last.held;
+      candidates = last.candidates;
+      makers = last.makers;
+      values = last.values;
+      changed = last.changed;
+      registers = last.registers;
+      snoops = last.snoops;
+      logs = last.logs;
+      history = last.history;
+      lengths = last.lengths;
+    }
+
+pub shape_of-used-in-Refused : goal.shape_of-used-in-Refused
+shape_of-used-in-Refused c = c.used-1.given
+
+pub shape_of-counts-in-Refused : goal.shape_of-counts-in-Refused
+shape_of-counts-in-Refused c = c.counts-1.given
+
+pub shape_of-held-in-Refused : goal.shape_of-held-in-Refused
+shape_of-held-in-Refused c = c.held-1.given
+
+pub shape_of-candidates-in-Refused : goal.shape_of-candidates-in-Refused
+shape_of-candidates-in-Refused c = c.candidates-1.given
+
+pub shape_of-makers-in-Refused : goal.shape_of-makers-in-Refused
+shape_of-makers-in-Refused c = c.makers-1.given
+
+pub shape_of-values-in-Refused : goal.shape_of-values-in-Refused
+shape_of-values-in-Refused c = c.values-1.given
+
+pub shape_of-changed-in-Refused : goal.shape_of-changed-in-Refused
+shape_of-changed-in-Refused c = c.changed-1.given
+
+pub shape_of-registers-in-Refused : goal.shape_of-registers-in-Refused
+shape_of-registers-in-Refused c = c.registers-1.given
+
+pub shape_of-snoops-in-Refused : goal.shape_of-snoops-in-Refused
+shape_of-snoops-in-Refused c = c.snoops-1.given
+
+pub shape_of-logs-in-Refused : goal.shape_of-logs-in-Refused
+shape_of-logs-in-Refused c = c.logs-1.given
+
+pub shape_of-history-in-Refused : goal.shape_of-history-in-Refused
+shape_of-history-in-Refused c = c.history-1.given
+
+pub shape_of-lengths-in-Refused : goal.shape_of-lengths-in-Refused
+shape_of-lengths-in-Refused c = c.lengths-1.given
+
+pub returns-in-Refused : goal.returns-in-Refused
+returns-in-Refused c =
+    let call = c in
+    let start = from_fresh (goal.at.returns-in-Refused call).After-fresh-made in
+    refused_reports start.args.s (here start) start.args.c start.requires call.fresh-made.ensures c.answer-1.given.0.0 c.in-Refused.is
+    start.args.bytes.now start.args.place start.args.numbers.now c.unreported.ensures
+
+pub tally_events-told-requires : goal.tally_events-told-requires
+tally_events-told-requires c =
+    let reached = c in
+    record { known = started_known (from_fresh (from_match (goal.at.tally_events-told-requires reached).In_default)).requires (begun (goal.at.tally_events-told-requires reached).In_default); few = record { opening = omega arith; taken = omega arith; freed = omega arith } }
+
+pub shape_of-used : goal.shape_of-used
+shape_of-used c = c.used-2-1.given ∙ c.used-1.given
+
+pub shape_of-counts : goal.shape_of-counts
+shape_of-counts c = c.counts-2-1.given ∙ c.counts-1.given
+
+pub shape_of-held : goal.shape_of-held
+shape_of-held c = c.held-2-1.given ∙ c.held-1.given
+
+pub shape_of-candidates : goal.shape_of-candidates
+shape_of-candidates c = c.candidates-2-1.given ∙ c.candidates-1.given
+
+pub shape_of-makers : goal.shape_of-makers
+shape_of-makers c = c.makers-2-1.given ∙ c.makers-1.given
+
+pub shape_of-values : goal.shape_of-values
+shape_of-values c = c.values-2-1.given ∙ c.values-1.given
+
+pub shape_of-changed : goal.shape_of-changed
+shape_of-changed c = c.changed-2-1.given ∙ c.changed-1.given
+
+pub shape_of-registers : goal.shape_of-registers
+shape_of-registers c = c.registers-2-1.given ∙ c.registers-1.given
+
+pub shape_of-snoops : goal.shape_of-snoops
+shape_of-snoops c = c.snoops-2-1.given ∙ c.snoops-1.given
+
+pub shape_of-logs : goal.shape_of-logs
+shape_of-logs c = c.logs-2-1.given ∙ c.logs-1.given
+
+pub shape_of-history : goal.shape_of-history
+shape_of-history c = c.history-2-1.given ∙ c.history-1.given
+
+pub shape_of-lengths : goal.shape_of-lengths
+shape_of-lengths c = c.lengths-2-1.given ∙ c.lengths-1.given
+
+pub shape_of-numbers : goal.shape_of-numbers
+shape_of-numbers c = c.numbers-1.given
+
+pub returns : goal.returns
+returns c =
+    let run = c in
+    let reached = c in
+    let start = from_fresh (from_match (goal.at.returns reached).In_default) in
+    sized_reports start.requires (begun (goal.at.returns reached).In_default) start.args.c start.args.bytes.now start.args.place (record { opening = 0; taken = 0; freed = 0 }) start.args.numbers.now
+    {left = left (goal.at.returns run).After-tally_events-told} run.tally_events-told.ensures
+    c.stand_behind-stood.ensures
+    c.Ending-of.ensures

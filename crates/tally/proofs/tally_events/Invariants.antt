@@ -1,0 +1,27 @@
+-- The loop of `tally_events`.
+use Prim.Native.Nat.{ℕ, ◌+◌, ◌-◌}
+use mathlib.Core.Path.{sym, ◌∙◌}
+use mathlib.Core.List.{List, []}
+use native.Mathlib.Omega.{arith}
+use lib.ListN.{length}
+use borrow.Author.Rules.{rules}
+use Rattle.laws.proofs.Number.{bounds}
+use Rattle.tables.specs.Tables.{Tables}
+use Rattle.tables.specs.Event.{Called}
+use Rattle.trace.specs.Stretch.{ran_on}
+use Rattle.tally.specs.Stretch.{told_on}
+use Rattle.tally.proofs.Tallying.{few_more, Met, meets, Tallying, tallying_starts, tallying_goes, tallying_ends}
+use Rattle.tally.proofs.tally_events.Given as goal
+
+abbrev pub tables_at : (used counts held candidates makers values changed registers snoops logs history lengths : List ℕ) → Tables
+tables_at used counts held candidates makers values changed registers snoops logs history lengths =
+    record { used = used; counts = counts; held = held; candidates = candidates; makers = makers; values = values; changed = changed; registers = registers; snoops = snoops; logs = logs; history = history; lengths = lengths }
+
+abbrev pub invariant-loop-s : goal.invariant-loop-s
+invariant-loop-s l =
+    Tallying l.s (ran_on l.s (tables_at l.initial.used l.initial.counts l.initial.held l.initial.candidates l.initial.makers l.initial.values l.initial.changed l.initial.registers l.initial.snoops l.initial.logs l.initial.history l.initial.lengths) l.initial.collector l.bytes l.place l.step []) (told_on l.s (tables_at l.initial.used l.initial.counts l.initial.held l.initial.candidates l.initial.makers l.initial.values l.initial.changed l.initial.registers l.initial.snoops l.initial.logs l.initial.history l.initial.lengths) l.initial.collector l.bytes l.place l.step l.initial.tallied.tally l.initial.numbers).told l.bytes l.initial.numbers
+    (tables_at l.used l.counts l.held l.candidates l.makers l.values l.changed l.registers l.snoops l.logs l.history l.lengths) l.collector l.next l.last l.events l.tallied l.numbers
+
+abbrev pub decreases-loop-s : goal.decreases-loop-s
+decreases-loop-s l =
+    length l.bytes - l.next
