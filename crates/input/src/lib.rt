@@ -1,54 +1,51 @@
 // The bytes of a trace, as a program reads them. All of it is inner (decision 4 of docs/DECISIONS.md): the program is `replay`.
-//     Got            what a read brought
 //     read_behind    a read behind what is left
 //     keep_rest      what is left of a part becomes the beginning of the next one
 //     read_again     a read that is tried again where it was interrupted or would have had to wait
+//     say_failed     a read or a write that failed, in words
 #![tactic(auto)]
 
-ghost use Rattle.std.specs.Prelude.{◌≤◌, length};
+ghost use Rattle.std.specs.Prelude.{◌≤◌, length, IfOk, OnErr};
+ghost use Rattle.std.specs.Io.{ReadsAtMost};
 ghost use Rattle.input.specs.Input.{Reads, Keeps};
 
-use libc::STDIN_FILENO;
-
-// What a read brought: whether it did not fail, and how many bytes there are now.
-#[derive(Clone, Copy)]
-pub struct Got {
-    pub is_read: bool,
-    pub n: usize,
-}
+use std::io;
+use std::io::{Eprint, ErrorKind, Read};
+use std::thread::yield_now;
 
 // Whether a read failed in passing: a signal interrupted it, or nothing is there yet on an input that does not wait.
-fn is_passing(error: i32) -> bool {
-    (error == libc::EINTR) | (error == libc::EAGAIN)
+fn is_passing(got: &io::Result<usize>) -> bool {
+    match got {
+        Ok(_) => false,
+        Err(error) => {
+            let kind = error.kind();
+            kind == ErrorKind::Interrupted || kind == ErrorKind::WouldBlock
+        }
+    }
 }
 
 // Reads once; a read that failed in passing is tried again, after others had their turn.
-fn read_again(buf: &mut [u8]) -> isize {
+fn read_again<R: Read>(stream: &mut R, buf: &mut [u8]) -> io::Result<usize>
+    ensures { ReadsAtMost result buf.new }
+{
     let mut tries = 1099511627776u64;
-    while tries > 0 {
+    let mut got = stream.read(buf);
+    while tries > 0 && is_passing(&got) {
         tries -= 1;
-        let got = libc::read(STDIN_FILENO, buf);
-        if got >= 0 {
-            return got;
-        }
-        if !is_passing(os::errno()) {
-            return got;
-        }
-        libc::sched_yield();
+        yield_now();
+        got = stream.read(buf);
     }
-    -1
+    got
 }
 
 // Reads once, behind the `left` bytes that are left, and answers how many bytes there are now: no more where the input has ended.
-pub fn read_behind(input: &mut [u8], left: usize) -> Got
+pub fn read_behind<R: Read>(stream: &mut R, input: &mut [u8], left: usize) -> io::Result<usize>
     requires { left ≤ length input.old }
-    ensures { Reads input.old left result.n input.new }
+    ensures read { IfOk result (λ n. Reads input.old left n input.new) }
+    ensures failed { OnErr result (Reads input.old left left input.new) }
 {
-    let got = read_again(&mut input[left..]);
-    Got {
-        is_read: got >= 0,
-        n: left + io::count(got, &input[left..]),
-    }
+    let got = read_again(stream, &mut input[left..])?;
+    Ok(left + got)
 }
 
 // The bytes from one place up to another move to the front.
@@ -63,4 +60,16 @@ pub fn keep_rest(input: &mut [u8], from: usize, to: usize)
         input[i] = input[from + i];
         i += 1;
     }
+}
+
+// A read or a write that failed is said on standard error, in the system's words and without its number.
+pub fn say_failed<R: Alloc + Eprint>(rt: &R, what: &str, error: &io::Error) {
+    let said = match format!(in rt.alloc(); "{error}") {
+        Ok(text) => match text.as_str().split_once(" (os error ") {
+            Some((words, _)) => eprintln!(rt; "{what}: {words}"),
+            None => eprintln!(rt; "{what}: {text}"),
+        },
+        Err(_) => eprintln!(rt; "{what}"),
+    };
+    let _ = said;
 }

@@ -220,14 +220,14 @@ module _ {x : Progress} {t : Tables} (set : Set x t) (last : Bool) (bytes : List
             reads
 
         fresh_lies : fresh s ≡ pool_of s (front s t) at_rest
-        fresh_lies = sym (ap (λ (z : Tables). pool_of s (front s z) at_rest) at_first.0 ∙ aside_pool s small)
+        fresh_lies = sym (ap (λ (z : Tables). pool_of s (front s z) at_rest) at_first_lem.0 ∙ aside_pool s small)
 
         pub first_sizes : GoesOn x t last bytes (record { reader = y.reader; sizes = s; collector = at_rest }) y.next
         first_sizes =
             record {
-              holds = record { small = small; known = subst (λ (z : Tables). Known s (front s z) at_rest) (sym at_first.0) (aside_known s small sized.range) };
+              holds = record { small = small; known = subst (λ (z : Tables). Known s (front s z) at_rest) (sym at_first_lem.0) (aside_known s small sized.range) };
               events = ap (λ (z : Reader). z.stage) sized.reader;
-              step = ap (λ (z : Reader). z.step) sized.reader ∙ sym at_first.1;
+              step = ap (λ (z : Reader). z.step) sized.reader ∙ sym at_first_lem.1;
               same =
                   first_chosen reads
                   ∙ ap (λ (b : Bool). cond b (rest_taken last bytes y.next y.reader s (fresh s)) (stops_at WrongSize 0 x.reader)) small

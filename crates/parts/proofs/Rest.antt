@@ -39,7 +39,6 @@ use Rattle.trace.proofs.Behind.{look}
 use Rattle.trace.proofs.Along.{Runs, no_event_lem, then_more, stretch-runs}
 use Rattle.trace.proofs.Sized.{length_lines, free_written}
 use Rattle.parts.specs.declared.Progress.{Progress}
-use Rattle.parts.specs.declared.Part.{Part}
 use Rattle.parts.specs.Part.{Taken, stand_on, rest_taken}
 use Rattle.parts.specs.Arrays as arrays
 use Rattle.parts.specs.Arrays.{front, left_in, Long, Holds, Later, HoldsAt, part_of, Takes}

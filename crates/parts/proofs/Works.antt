@@ -7,9 +7,8 @@
 -- Assumes nothing.
 use Prim.Native.Nat.{ℕ, zero, suc, ◌+◌, ◌≤◌}
 use mathlib.Core.Path.{◌≡◌, refl, sym, ap, ◌∙◌}
-use mathlib.Core.Bool.{Bool, true, false, cond}
-use mathlib.Core.List.{List, [], ◌∷◌, ◌++◌, append-nil}
-use mathlib.Core.Logic.{◌⊎◌}
+use mathlib.Core.Bool.{Bool, true, false}
+use mathlib.Core.List.{List, [], ◌∷◌, ◌++◌}
 use native.Mathlib.Omega.{arith}
 use native.Mathlib.Nat.{add-zero}
 use lib.ListN.{length, drop, length-append}
@@ -17,14 +16,13 @@ use Rattle.rules.specs.declared.Sizes.{Sizes}
 use Rattle.rules.specs.declared.Event.{Event}
 use Rattle.rules.specs.Pool.{Pool}
 use Rattle.rules.specs.Outcome.{after, free_records}
-use Rattle.fields.specs.declared.Stage.{Stage}
-use Rattle.fields.specs.declared.Stage.TheVariants.{First, Events, Ended}
+use Rattle.fields.specs.declared.Stage.TheVariants.{Events, Ended}
 use Rattle.fields.specs.declared.Reader.{Reader}
 use Rattle.fields.specs.declared.Field.{Field}
 use Rattle.fields.specs.declared.Field.TheVariants as field
 use Rattle.fields.specs.declared.Read.{Read}
 use Rattle.fields.specs.Field.{read_at}
-use Rattle.fields.specs.Part.{longest, moved_field, moved, is_taken}
+use Rattle.fields.specs.Part.{moved_field, moved, is_taken}
 use Rattle.fields.proofs.Comes.{reader_at, event_read, Comes, a_refusal, an_event, the_end, nothing, read_comes}
 use Rattle.trace.specs.declared.Stand.TheVariants as stand
 use Rattle.trace.specs.declared.Stood.{Stood}

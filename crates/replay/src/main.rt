@@ -7,48 +7,50 @@
 // last part what `put_ending` does. docs/DECISIONS.md says how far a theorem reaches here.
 #![tactic(auto)]
 
-ghost use Rattle.std.specs.Prelude.{◌≤◌, length};
+ghost use Rattle.std.specs.Prelude.{◌≤◌, length, IfSome};
 ghost use Rattle.input.specs.Input.{Reads};
 
 use fields::{Reader, Stage};
-use input::{Got, keep_rest, read_behind};
-use libc::{STDERR_FILENO, STDOUT_FILENO};
+use input::{keep_rest, read_behind, say_failed};
 use parts::{Progress, part_text, put_ending};
 use rules::{Collector, Sizes};
+use std::io::{Eprint, Print, Read};
 use trace::Stand;
 
 // A read that fails is said on standard error, and then nobody knows what follows.
-fn read_more(input: &mut [u8], left: usize) -> Got
+fn read_more<R: Read>(rt: &(impl Alloc + Eprint), stream: &mut R, input: &mut [u8], left: usize) -> Option<usize>
     requires { left ≤ length input.old }
-    ensures { Reads input.old left result.n input.new }
+    ensures { IfSome result (λ n. Reads input.old left n input.new) }
 {
-    let got = read_behind(input, left);
-    if !got.is_read {
-        os::fail(b"replay: the trace can't be read");
+    match read_behind(stream, input, left) {
+        Ok(n) => Some(n),
+        Err(error) => {
+            say_failed(rt, "replay: the trace can't be read", &error);
+            None
+        }
     }
-    got
 }
 
 // A write that fails is said on standard error, and no line is made up.
-fn print(text: &[u8]) -> bool {
-    let is_written = io::write_all(STDOUT_FILENO, text);
-    if !is_written {
-        os::fail(b"replay: the lines can't be written");
+fn print(rt: &(impl Alloc + Eprint + Print), text: &[u8]) -> bool {
+    match rt.write_all(text) {
+        Ok(()) => true,
+        Err(error) => {
+            say_failed(rt, "replay: the lines can't be written", &error);
+            false
+        }
     }
-    is_written
 }
 
 // No run uses up the turns; one that did would have no last line.
-fn say_unended() {
-    io::write_all(
-        STDERR_FILENO,
-        b"replay: the trace has not ended after 1099511627776 reads\n",
-    );
+fn say_unended(rt: &impl Eprint) {
+    let _ = eprintln!(rt; "replay: the trace has not ended after 1099511627776 reads");
 }
 
 // A proved loop has to end, and nothing says that an input does. So the turns are counted down, from a number that no run uses up. Behind the last byte of a trace
 // nothing is waited for, so that the last part ends the trace. Where a read fails, or the turns run out, no last line is made up.
-fn main() {
+fn main(rt: HostRuntime) {
+    let mut stdin = rt.stdin();
     let mut used = [0u64; 1];
     let mut counts = [0u16; 64];
     let mut held = [0u64; 1];
@@ -87,11 +89,9 @@ fn main() {
     let mut turns = 1099511627776u64;
     while turns > 0 {
         turns -= 1;
-        let got = read_more(&mut input, left);
-        if !got.is_read {
+        let Some(n) = read_more(&rt, &mut stdin, &mut input, left) else {
             return;
-        }
-        let n = got.n;
+        };
         let last = n == left;
         let taken = part_text(
             &mut used,
@@ -113,14 +113,14 @@ fn main() {
             &mut text,
         );
         let size = taken.size;
-        if !print(&text[..size]) {
+        if !print(&rt, &text[..size]) {
             return;
         }
         let part = taken.part;
         let stand = part.stand;
         if let Stand::Ended(ending) = stand {
             let end = put_ending(&mut text, ending, base);
-            print(&text[..end]);
+            print(&rt, &text[..end]);
             return;
         }
         let next = part.next;
@@ -129,5 +129,5 @@ fn main() {
         left = n - next;
         progress = part.progress;
     }
-    say_unended();
+    say_unended(&rt);
 }

@@ -11,7 +11,7 @@
 --     Tallying                  the events of a stretch are being done and tallied
 --     tallying_starts, tallying_goes, tallying_ends     before the first, by the event field that stands at the place, and where none does
 -- Assumes nothing.
-use Prim.Native.Nat.{ℕ, suc, ◌+◌, ◌*◌, ◌≤◌}
+use Prim.Native.Nat.{ℕ, ◌+◌, ◌≤◌}
 use mathlib.Core.Path.{◌≡◌, refl, sym, ap, ◌∙◌, subst}
 use mathlib.Core.Bool.{Bool, true, false, cond}
 use mathlib.Core.List.{List, [], ◌∷◌, ◌++◌}

@@ -4,10 +4,10 @@
 --     cycles_first, cycles_none     the closed cycles of a trace, by its first field: sizes, or a refusal
 --     traced_reports, unsized_reports     a whole trace, by its first field: sizes, or a refusal
 -- Assumes nothing.
-use Prim.Native.Nat.{ℕ, ◌+◌}
+use Prim.Native.Nat.{ℕ}
 use mathlib.Core.Path.{◌≡◌, refl, sym, ap, ◌∙◌}
 use mathlib.Core.Bool.{Bool, true, false, cond, ◌&&◌}
-use mathlib.Core.List.{List, [], ◌∷◌}
+use mathlib.Core.List.{List, []}
 use native.Mathlib.Omega.{arith}
 use native.Mathlib.Nat.{zero-add}
 use lib.IntN.{ℤ}
@@ -20,7 +20,7 @@ use Rattle.rules.specs.declared.Answer.TheVariants.{Fresh, Refused}
 use Rattle.rules.specs.declared.Collector.{Collector}
 use Rattle.rules.specs.Size.{in_range}
 use Rattle.rules.specs.Pool.{Pool, fresh}
-use Rattle.rules.specs.Outcome.{answers, after}
+use Rattle.rules.specs.Outcome.{after}
 use Rattle.soundness.proofs.Kept.{fresh_is_sound}
 use Rattle.tables.specs.Tables.{Tables}
 use Rattle.tables.specs.Lie.{pool_of}
@@ -30,7 +30,6 @@ use Rattle.fresh.specs.Fits.{is_exact, refused_on}
 use Rattle.fresh.specs.Fresh.{made_fresh}
 use Rattle.fresh.specs.Free.{free_in}
 use Rattle.fields.specs.declared.Stage.TheVariants.{First}
-use Rattle.fields.specs.declared.Field.{Field}
 use Rattle.fields.specs.declared.Field.TheVariants as field
 use Rattle.fields.specs.declared.Read.{Read}
 use Rattle.fields.specs.Field.{read_at}
@@ -45,10 +44,10 @@ use Rattle.trace.specs.declared.Ending.{Ending}
 use Rattle.trace.specs.declared.Ending.TheVariants.{Stopped}
 use Rattle.trace.specs.declared.Replay.{Replay}
 use Rattle.trace.specs.declared.Stood.{Stood}
-use Rattle.trace.specs.Replay.{Line, Left, untouched, stands, Replayed, stops, with_lines, at_start, replayed}
-use Rattle.trace.specs.Stretch.{behind, stretch, lines_behind, put, RanOn, ran_on}
+use Rattle.trace.specs.Replay.{Left, untouched, stands, Replayed, stops, with_lines, at_start, replayed}
+use Rattle.trace.specs.Stretch.{behind, stretch, lines_behind}
 use Rattle.trace.specs.Stand.{stand_behind, ending_of}
-use Rattle.trace.specs.Traced.{Traced, traced, sized}
+use Rattle.trace.specs.Traced.{Traced, sized}
 use Rattle.trace.specs.Promise.{events_of}
 use Rattle.trace.proofs.Turns.{turn}
 use Rattle.trace.proofs.Along.{goes_on, stretch-ends, goes-stretch}
@@ -60,7 +59,7 @@ use Rattle.tally.specs.declared.Report.{Report}
 use Rattle.tally.specs.Report.{cycles_in, reported}
 use Rattle.tally.specs.Stretch.{Telling, told_of, opened, ToldOn, told_on, Tells}
 use Rattle.tally.proofs.Tallying.{ran_told}
-use Rattle.tally.specs.Traced.{ReportOn, report_by, report_traced, cycles_behind, report_sized}
+use Rattle.tally.specs.Traced.{report_by, report_traced, cycles_behind, report_sized}
 
 -- a report of no event
 abbrev none : Ending → Collector → Report

@@ -1,12 +1,9 @@
--- `input::read_again` does nothing undefined, and ends: its tries are counted down. Assumes nothing.
-use mathlib.Core.Path.{◌≡◌, refl}
-use native.Mathlib.Omega.{arith}
-use borrow.Author.Rules.{rules}
-use lib.ListN.{length}
+-- The loop of `read_again`: what was read last stands in the buffer. Its tries are counted down.
+use Rattle.std.specs.Io.{ReadsAtMost}
 use Rattle.input.proofs.read_again.Given as goal
 
 abbrev pub invariant-loop-tries : goal.invariant-loop-tries
-invariant-loop-tries l = length l.buf ≡ length l.initial.buf
+invariant-loop-tries g l = ReadsAtMost l.got l.buf
 
 abbrev pub decreases-loop-tries : goal.decreases-loop-tries
-decreases-loop-tries l = l.tries
+decreases-loop-tries g l = l.tries

@@ -32,7 +32,7 @@ fit : (c : Else-not-has_shape) → fits (from_shape (goal.at.Else-not-has_shape 
 fit c = sym c.has_shape.ensures ∙ c.if-not-has_shape.false
 
 abbrev from_sound : Else-not-inspect → Start
-from_sound c = from_shape (from_inspect (goal.at.Else-not-inspect c).After-inspect)
+from_sound c = (goal.at.Else-not-inspect c).Start
 
 sound : (c : Else-not-inspect) → inspected (from_sound c).args.s (here (from_sound c)) (from_sound c).args.c ≡ true
 sound c = sym c.inspect.ensures ∙ c.if-not-inspect.false

@@ -22,4 +22,4 @@ returns-in_default c =
     let read = c in
     let start = read in
     rest_other start.args.bytes.now start.args.place start.args.step read.if-place-bytes.false read.read_at-x.ensures
-    (λ why at h. miss (0 ∷ 1 ∷ 2 ∷ 3 ∷ []) 4 tt (rw h at c.in_default.is))
+    c.in_default.not-Refused

@@ -1,10 +1,6 @@
 -- `parts::begin_first` meets its contract: what stands first in a trace, by the laws of `First`. Assumes nothing.
 use mathlib.Core.Path.{◌≡◌, refl, sym, ◌∙◌}
 use mathlib.Core.Bool.{false}
-use mathlib.Core.List.{[], ◌∷◌}
-use types.Run.{miss}
-use borrow.Author.Rules.{rules}
-use borrow.Author.Tests.{not-true, not-false}
 use Rattle.trace.specs.Stand.{waits}
 use Rattle.trace.proofs.Behind.{waits_are}
 use Rattle.parts.proofs.First.{first_waits_lem, first_refused, first_large, first_other, first_sizes}
@@ -48,7 +44,6 @@ pub returns-in_default : goal.returns-in_default
 returns-in_default c =
     let start = c in
     let at = start.args in
-    let keys = c.in_default.is in
     λ t set.
     first_other set at.last at.bytes.now start.requires (goes (goal.at.returns-in_default c).Else-last-bytes) c.read_at-first.ensures
-    (λ s h. miss (1 ∷ 2 ∷ 3 ∷ []) 0 tt (rw h at keys)) (λ why at h. miss (1 ∷ 2 ∷ 3 ∷ []) 4 tt (rw h at keys)) c.stops-in_default.ensures
+    c.in_default.not-Sizes c.in_default.not-Refused c.stops-in_default.ensures

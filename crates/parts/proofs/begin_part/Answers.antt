@@ -2,7 +2,6 @@
 use Prim.Native.Nat.{ℕ}
 use mathlib.Core.Path.{sym, ap, ◌∙◌}
 use mathlib.Core.List.{List}
-use borrow.Author.Rules.{rules}
 use lib.ListN.{length, take}
 use Rattle.tables.specs.Bits.{word_count}
 use Rattle.fresh.specs.Free.{free_in}

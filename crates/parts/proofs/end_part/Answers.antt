@@ -1,9 +1,8 @@
 -- `parts::end_part` meets its contract: the words of the used marks are within the array. Assumes nothing.
 use Prim.Native.Nat.{◌≤◌}
-use mathlib.Core.Path.{◌≡◌, sym, ap}
+use mathlib.Core.Path.{ap}
 use native.Mathlib.Omega.{arith}
-use borrow.Author.Rules.{rules}
-use lib.ListN.{length, take}
+use lib.ListN.{length}
 use Rattle.tables.specs.Bits.{word_count}
 use Rattle.trace.specs.declared.Stood.{Stood}
 use Rattle.parts.specs.Arrays.{part_of}

@@ -1,42 +1,33 @@
 -- `parts::part_text` meets its contract: a part begins with its events, or there is nothing to do; the answers of the events have room, since an event has at least 7
 -- bytes, and their text is that of the part's lines. Assumes nothing.
-use Prim.Native.Nat.{◌+◌, ◌*◌, ◌≤◌}
-use mathlib.Core.Path.{◌≡◌, refl, sym, ap, ◌∙◌, subst}
+use Prim.Native.Nat.{ℕ, ◌*◌, ◌≤◌}
+use mathlib.Core.Path.{◌≡◌, refl, sym, ap, subst}
 use native.Mathlib.Omega.{arith}
-use borrow.Author.Rules.{rules}
 use lib.ListN.{length}
 use Rattle.tables.specs.Tables.{Tables, lent}
-use Rattle.trace.specs.Stretch.{RanOn, ran_on}
-use Rattle.parts.specs.Arrays.{is_small, front, left_in, Takes}
-use Rattle.parts.specs.Begun.{whole_part, GoesOn, StaysSo, BegunAs}
+use Rattle.parts.specs.Arrays.{is_small, front, left_in, Set, Takes}
+use Rattle.parts.specs.declared.Begun.TheVariants.{Goes}
+use Rattle.parts.specs.declared.Begun.{Begun}
+use Rattle.parts.specs.declared.Progress.{Progress}
+use Rattle.parts.specs.Begun.{whole_part, GoesOn, BegunAs}
 use Rattle.parts.proofs.Front.{counted}
 use Rattle.parts.proofs.Most.{lines_most}
 use Rattle.parts.proofs.Lines.{part_lines, no_lines, starts_same}
 use Rattle.parts.proofs.Rest.{ran_steps}
 use Rattle.parts.proofs.First.{goes-taken}
 use Rattle.parts.proofs.part_text.Goals as goal
-use Rattle.parts.proofs.part_text.Goals.{After-end_part-part, After-run_front-ran, In-Goes-2, Start}
+use Rattle.parts.proofs.part_text.Goals.{After-end_part-part, After-run_front-ran, Start}
 
 abbrev here : Start → Tables
 here start =
     let at = start.args in
     lent at.used.now at.counts.now at.held.now at.candidates.now at.makers.now at.values.now at.changed.now at.registers.now at.snoops.now at.logs.now at.history.now at.lengths.now
 
-abbrev from_begun : In-Goes-2 → Start
-from_begun c = (goal.at.In-Goes-2 c).Start
-
-abbrev from_run : After-run_front-ran → In-Goes-2
-from_run c = (goal.at.After-run_front-ran c).In-Goes-2
-
-abbrev from_end : After-end_part-part → After-run_front-ran
-from_end c = (goal.at.After-end_part-part c).After-run_front-ran
-
 -- the part begins with its events
-going : (c : In-Goes-2) → let start = from_begun c in
-    GoesOn start.args.x (here start) start.args.last start.args.bytes.now c.begun-in-Goes-1.given.0.0 c.begun-in-Goes-1.given.0.1.0
-going c =
-    let start = from_begun c in
-    subst (BegunAs start.args.x (here start) start.args.last start.args.bytes.now) c.begun-in-Goes-1.given.1 (c.begin_part-begun.ensures (here start) refl start.requires.set)
+going : (start : Start) {y : Progress} {place : ℕ} {begins : Begun} → begins ≡ Goes y place
+    → ((t : Tables) → t.used ≡ start.args.used.now → Set start.args.x t → BegunAs start.args.x t start.args.last start.args.bytes.now begins)
+    → GoesOn start.args.x (here start) start.args.last start.args.bytes.now y place
+going start is begun_as = subst (BegunAs start.args.x (here start) start.args.last start.args.bytes.now) is (begun_as (here start) refl start.requires.set)
 
 -- what `run_front` left
 abbrev left : After-run_front-ran → Tables
@@ -58,58 +49,60 @@ left c =
     }
 
 -- the whole part
-taken : (c : After-end_part-part) → let run = from_end c in let start = from_begun (from_run run) in
+taken : (c : After-end_part-part) → let start = (goal.at.After-end_part-part c).Start in let run = (goal.at.After-end_part-part c).After-run_front-ran in
     Takes (whole_part start.args.x (here start) start.args.last start.args.bytes.now) start.args.x start.args.answers.now c.end_part-part.result (left run)
-    run.run_front-ran.new.1.1.1.1.1.1.1.1.1.1.1.1.1.1.1.1.1.0
+    run.run_front-ran.new.answers
 taken c =
-    let run = from_end c in
-    let start = from_begun (from_run run) in
-    goes-taken start.requires.set start.args.last start.args.bytes.now (going (from_run run)) start.args.answers.now {left = left run} run.run_front-ran.ensures c.end_part-part.ensures
+    let run = (goal.at.After-end_part-part c).After-run_front-ran in
+    let start = (goal.at.After-end_part-part c).Start in
+    goes-taken start.requires.set start.args.last start.args.bytes.now (going start c.in-Goes.is c.begin_part-begun.ensures) start.args.answers.now {left = left run} run.run_front-ran.ensures c.end_part-part.ensures
 
 -- "an event has at least 7 bytes"
-few : (c : After-end_part-part) → (from_end c).run_front-ran.result.events * 7 ≤ length (from_begun (from_run (from_end c))).args.bytes.now
+few : (c : After-end_part-part) → c.run_front-ran.result.events * 7 ≤ length (goal.at.After-end_part-part c).Start.args.bytes.now
 few c =
-    let run = from_end c in
-    let start = from_begun (from_run run) in
+    let start = (goal.at.After-end_part-part c).Start in
     let at = start.args in
     omega (arith, ap (λ p. p.events) c.end_part-part.ensures, (taken c).events, lines_most at.last at.bytes.now is_small at.x.reader (left_in at.x (here start)))
 
 -- so that their answers have room
-fits : (c : After-end_part-part) → (from_end c).run_front-ran.result.events * 2 ≤ length (from_begun (from_run (from_end c))).args.answers.now
-fits c = omega (arith, few c, (from_begun (from_run (from_end c))).requires.has_room.answers)
+fits : (c : After-end_part-part) → c.run_front-ran.result.events * 2 ≤ length (goal.at.After-end_part-part c).Start.args.answers.now
+fits c = omega (arith, few c, c.requires.has_room.answers)
+
+within : (c : After-end_part-part) → c.run_front-ran.result.events * 2 ≤ length c.run_front-ran.new.answers
+within c = omega (arith, fits c, c.run_front-ran.auto.answers)
 
 pub begin_part-begun-requires : goal.begin_part-begun-requires
 begin_part-begun-requires c = let start = c in (here (goal.at.begin_part-begun-requires start).Start, refl, start.requires.set)
 
 pub run_front-ran-requires : goal.run_front-ran-requires
 run_front-ran-requires c =
-    let begun = c in
-    let goes = going (goal.at.run_front-ran-requires begun).In-Goes-2 in
-    record { long = (from_begun (goal.at.run_front-ran-requires begun).In-Goes-2).requires.set.long; s_value = goes.holds.small; known = goes.holds.known }
+    let goes = going (goal.at.run_front-ran-requires c).Start c.in-Goes.is c.begin_part-begun.ensures in
+    record { long = c.requires.set.long; s_value = goes.holds.small; known = goes.holds.known }
 
 pub end_part-part-requires : goal.end_part-part-requires
 end_part-part-requires c =
-    let run = c in
-    record { sizes_value = (going (from_run (goal.at.end_part-part-requires run).After-run_front-ran)).holds.small; used_len = run.run_front-ran.ensures.long.used }
+    let goes = going (goal.at.end_part-part-requires c).Start c.in-Goes.is c.begin_part-begun.ensures in
+    record { sizes_value = goes.holds.small; used_len = c.run_front-ran.ensures.long.used }
 
 pub overflow_mul-filled : goal.overflow_mul-filled
-overflow_mul-filled c = let part = c in omega (arith, fits (goal.at.overflow_mul-filled part).After-end_part-part, (from_begun (from_run (from_end (goal.at.overflow_mul-filled part).After-end_part-part))).well_formed)
+overflow_mul-filled c = omega (arith, fits (goal.at.overflow_mul-filled c).After-end_part-part, c.well_formed)
 
 pub slice_bounds-put_lines-end : goal.slice_bounds-put_lines-end
-slice_bounds-put_lines-end c = omega (arith, fits (goal.at.slice_bounds-put_lines-end c).After-end_part-part, c.answers-1.given)
+slice_bounds-put_lines-end c = within (goal.at.slice_bounds-put_lines-end c).After-end_part-part
 
 pub slice_bounds-put_lines-end-in-Goes : goal.slice_bounds-put_lines-end-in-Goes
-slice_bounds-put_lines-end-in-Goes c = counted _ _ (slice_bounds-put_lines-end c)
+slice_bounds-put_lines-end-in-Goes c = counted _ _ (within (goal.at.slice_bounds-put_lines-end-in-Goes c).After-end_part-part)
 
 pub put_lines-size-requires : goal.put_lines-size-requires
 put_lines-size-requires c =
-    let part = c in
-    let run = from_end (goal.at.put_lines-size-requires part).After-end_part-part in
-    let begun = from_run run in
-    let start = from_begun begun in
-    let size = sym (slice_bounds-put_lines-end-in-Goes (c)) in
-    let y = begun.begun-in-Goes-1.given.0.0 in
-    let steps = ran_steps y.sizes (front y.sizes (here start)) y.collector start.args.bytes.now begun.begun-in-Goes-1.given.0.1.0 start.args.x.reader.step start.args.answers.now run.run_front-ran.ensures.same in record { events_behind = (run.run_front-ran.result.events, size, omega (arith, steps, c.struct_known-1.given)); answers_in_bounds = omega (arith, size, few (goal.at.put_lines-size-requires part).After-end_part-part, start.requires.has_room.lines) }
+    let start = (goal.at.put_lines-size-requires c).Start in
+    let size = sym (counted _ _ (within (goal.at.put_lines-size-requires c).After-end_part-part)) in
+    let y = c.in-Goes.y in
+    let steps = ran_steps y.sizes (front y.sizes (here start)) y.collector start.args.bytes.now c.in-Goes.place start.args.x.reader.step start.args.answers.now c.run_front-ran.ensures.same in
+    record {
+      events_behind = (c.run_front-ran.result.events, size, omega (arith, steps, c.struct_known-1.given));
+      answers_in_bounds = omega (arith, size, few (goal.at.put_lines-size-requires c).After-end_part-part, start.requires.has_room.lines);
+    }
 
 pub returns-in-Stays : goal.returns-in-Stays
 returns-in-Stays c =

@@ -2,17 +2,11 @@
 use Prim.Native.Nat.{ℕ, ◌+◌}
 use mathlib.Core.Path.{sym, ap, ◌∙◌}
 use native.Mathlib.Omega.{arith}
-use borrow.Author.Rules.{rules}
 use Rattle.trace.specs.declared.Ending.{Ending}
 use Rattle.text.specs.Text.{refused_text}
 use Rattle.parts.specs.Part.{moved_ending}
 use Rattle.parts.specs.Printed.{ending_printed}
 use Rattle.parts.proofs.Lines.{starts_same}
-use Rattle.parts.proofs.put_ending.Reads as reads
-use Rattle.parts.proofs.put_ending.Lts as lts
-use Rattle.text.proofs.put_end.Reads as put-end-reads
-use Rattle.text.proofs.put_refused.Reads as put-refused-reads
-use Rattle.reply.proofs.refusal_number.Reads as refusal-number-reads
 use Rattle.parts.proofs.put_ending.Goals as goal
 
 pub overflow_add-base : goal.overflow_add-base
@@ -32,6 +26,6 @@ unfolding ending_printed moved_ending
 returns-in-Stopped c =
     let start = c in
     starts_same
-    (ap (λ (n : ℕ). refused_text n (start.args.base + c.ending-in-Stopped-1.given.0.1.0)) c.refusal_number.ensures
+    (ap (λ (n : ℕ). refused_text n (start.args.base + c.in-Stopped.place)) c.refusal_number.ensures
     ∙ ap (λ (e : Ending). ending_printed (moved_ending start.args.base e)) (sym c.in-Stopped.is))
-    c.Put-refused.ensures
+    c.put_refused.ensures

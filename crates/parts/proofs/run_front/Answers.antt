@@ -2,7 +2,6 @@
 use mathlib.Core.Path.{sym, ◌∙◌}
 use Prim.Native.Nat.{◌+◌, ◌*◌}
 use native.Mathlib.Omega.{arith}
-use borrow.Author.Rules.{rules}
 use Rattle.rules.specs.Size.{links}
 use Rattle.tables.specs.Bits.{word_count}
 use Rattle.tables.specs.Tables.{Tables, lent}
@@ -10,9 +9,6 @@ use Rattle.tables.specs.Lie.{room}
 use Rattle.trace.specs.Stretch.{RanOn}
 use Rattle.parts.specs.Arrays.{front}
 use Rattle.parts.proofs.Front.{links_few, registers_few, logs_few, Within, within, counted, runs_back}
-use Rattle.parts.proofs.run_front.Reads as reads
-use Rattle.parts.proofs.run_front.Lts as lts
-use Rattle.trace.proofs.run_events.Reads as run-events-reads
 use Rattle.parts.proofs.run_front.Goals as goal
 use Rattle.parts.proofs.run_front.Goals.{After-run_events, After-slice_known-26-1, After-struct_known-5-1, Start}
 

@@ -1,11 +1,7 @@
 -- `tally::report_sized` meets its contract: `fresh` leaves a sound pool where it does not refuse, the events are done and tallied on it, and what stands behind them
 -- says how the trace ends. Assumes nothing.
-use Prim.Native.Nat.{◌*◌, ◌≤◌}
 use mathlib.Core.Path.{◌∙◌}
-use mathlib.Core.List.{[], ◌∷◌}
 use native.Mathlib.Omega.{arith}
-use types.Run.{miss}
-use borrow.Author.Rules.{rules}
 use Rattle.tables.specs.Tables.{Tables, lent}
 use Rattle.tables.specs.Event.{Called}
 use Rattle.trace.proofs.Sized.{Started, fresh_starts, started_known}
@@ -53,7 +49,7 @@ begun : (c : In_default) → let call = from_match c in Started (from_fresh call
 begun c =
     let call = from_match c in
     let start = from_fresh call in
-    fresh_starts start.args.s (here start) start.args.c start.requires call.fresh-made.ensures (λ why h. miss (0 ∷ 1 ∷ 2 ∷ 3 ∷ 4 ∷ 5 ∷ 6 ∷ 7 ∷ []) 8 tt (rw h at c.in_default.keys2))
+    fresh_starts start.args.s (here start) start.args.c start.requires call.fresh-made.ensures c.in_default.not-Refused
 
 -- what the events left
 abbrev left : After-tally_events-told → Tables
@@ -114,7 +110,7 @@ pub returns-in-Refused : goal.returns-in-Refused
 returns-in-Refused c =
     let call = c in
     let start = from_fresh (goal.at.returns-in-Refused call).After-fresh-made in
-    refused_reports start.args.s (here start) start.args.c start.requires call.fresh-made.ensures c.answer-1.given.0.0 c.in-Refused.is
+    refused_reports start.args.s (here start) start.args.c start.requires call.fresh-made.ensures c.in-Refused.why c.in-Refused.is
     start.args.bytes.now start.args.place start.args.numbers.now c.unreported.ensures
 
 pub tally_events-told-requires : goal.tally_events-told-requires
@@ -169,4 +165,4 @@ returns c =
     sized_reports start.requires (begun (goal.at.returns reached).In_default) start.args.c start.args.bytes.now start.args.place (record { opening = 0; taken = 0; freed = 0 }) start.args.numbers.now
     {left = left (goal.at.returns run).After-tally_events-told} run.tally_events-told.ensures
     c.stand_behind-stood.ensures
-    c.Ending-of.ensures
+    c.ending_of-ending.ensures

@@ -1,8 +1,6 @@
 -- `tally::report_trace` meets its contract: an accepted sizes field goes to `report_sized`, and anything else is refused with no table changed. Assumes nothing.
 use mathlib.Core.Path.{◌∙◌}
-use mathlib.Core.List.{[], ◌∷◌}
-use types.Run.{miss}
-use borrow.Author.Rules.{rules}
+use mathlib.Core.List.{[]}
 use Rattle.tables.specs.Tables.{Tables, lent}
 use Rattle.trace.proofs.Whole.{first_range, first_only}
 use Rattle.tally.proofs.Whole.{traced_reports, unsized_reports}
@@ -76,7 +74,7 @@ pub returns-in_default : goal.returns-in_default
 returns-in_default c =
     let read = c in
     let start = c in
-    let keys = c.in_default.is in
     absurd
     (first_only (here (goal.at.returns-in_default start).Start) start.args.c start.args.bytes.now [] read.read_at-first.ensures
-    (λ s h. miss (1 ∷ 2 ∷ 3 ∷ []) 0 tt (rw h at keys)) (λ why at h. miss (1 ∷ 2 ∷ 3 ∷ []) 4 tt (rw h at keys)))
+    c.in_default.not-Sizes
+    c.in_default.not-Refused)

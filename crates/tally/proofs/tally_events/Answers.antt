@@ -1,20 +1,13 @@
 -- `tally::tally_events` meets its contract: a turn does the event that stands at the place and tallies it, and the last one finds that none stands there. Assumes
 -- nothing.
-use Prim.Native.Nat.{ℕ, ◌+◌, ◌-◌}
 use mathlib.Core.Path.{sym, ◌∙◌}
-use mathlib.Core.List.{List, []}
 use native.Mathlib.Omega.{arith}
-use lib.ListN.{length}
-use borrow.Author.Rules.{rules}
 use Rattle.laws.proofs.Number.{bounds}
-use Rattle.tables.specs.Tables.{Tables}
 use Rattle.tables.specs.Event.{Called}
-use Rattle.trace.specs.Stretch.{ran_on}
 use Rattle.tally.specs.Stretch.{told_on}
-use Rattle.tally.proofs.Tallying.{few_more, Met, meets, Tallying, tallying_starts, tallying_goes, tallying_ends}
+use Rattle.tally.proofs.Tallying.{few_more, Met, meets, tallying_starts, tallying_goes, tallying_ends}
 use Rattle.tally.proofs.tally_events.Goals as goal
 use Rattle.tally.proofs.tally_events.Goals.{After-event_known-y}
-use Rattle.tally.proofs.tally_events.Invariants.{tables_at}
 
 -- what the event answered and left
 abbrev done : After-event_known-y → Called
@@ -127,40 +120,40 @@ loop-s-preserved c =
     c.tally_event-tallied.ensures
 
 pub shape_of-used : goal.shape_of-used
-shape_of-used c = let at = c in at.loop-s.invariant.going.known.exact.used ∙ sym at.requires.0.exact.used
+shape_of-used c = let at = c in at.loop-s.invariant.going.known.exact.used ∙ sym at.requires.known.exact.used
 
 pub shape_of-counts : goal.shape_of-counts
-shape_of-counts c = let at = c in at.loop-s.invariant.going.known.exact.counts ∙ sym at.requires.0.exact.counts
+shape_of-counts c = let at = c in at.loop-s.invariant.going.known.exact.counts ∙ sym at.requires.known.exact.counts
 
 pub shape_of-held : goal.shape_of-held
-shape_of-held c = let at = c in at.loop-s.invariant.going.known.exact.held ∙ sym at.requires.0.exact.held
+shape_of-held c = let at = c in at.loop-s.invariant.going.known.exact.held ∙ sym at.requires.known.exact.held
 
 pub shape_of-candidates : goal.shape_of-candidates
-shape_of-candidates c = let at = c in at.loop-s.invariant.going.known.exact.candidates ∙ sym at.requires.0.exact.candidates
+shape_of-candidates c = let at = c in at.loop-s.invariant.going.known.exact.candidates ∙ sym at.requires.known.exact.candidates
 
 pub shape_of-makers : goal.shape_of-makers
-shape_of-makers c = let at = c in at.loop-s.invariant.going.known.exact.makers ∙ sym at.requires.0.exact.makers
+shape_of-makers c = let at = c in at.loop-s.invariant.going.known.exact.makers ∙ sym at.requires.known.exact.makers
 
 pub shape_of-values : goal.shape_of-values
-shape_of-values c = let at = c in at.loop-s.invariant.going.known.exact.values ∙ sym at.requires.0.exact.values
+shape_of-values c = let at = c in at.loop-s.invariant.going.known.exact.values ∙ sym at.requires.known.exact.values
 
 pub shape_of-changed : goal.shape_of-changed
-shape_of-changed c = let at = c in at.loop-s.invariant.going.known.exact.changed ∙ sym at.requires.0.exact.changed
+shape_of-changed c = let at = c in at.loop-s.invariant.going.known.exact.changed ∙ sym at.requires.known.exact.changed
 
 pub shape_of-registers : goal.shape_of-registers
-shape_of-registers c = let at = c in at.loop-s.invariant.going.known.exact.registers ∙ sym at.requires.0.exact.registers
+shape_of-registers c = let at = c in at.loop-s.invariant.going.known.exact.registers ∙ sym at.requires.known.exact.registers
 
 pub shape_of-snoops : goal.shape_of-snoops
-shape_of-snoops c = let at = c in at.loop-s.invariant.going.known.exact.snoops ∙ sym at.requires.0.exact.snoops
+shape_of-snoops c = let at = c in at.loop-s.invariant.going.known.exact.snoops ∙ sym at.requires.known.exact.snoops
 
 pub shape_of-logs : goal.shape_of-logs
-shape_of-logs c = let at = c in at.loop-s.invariant.going.known.exact.logs ∙ sym at.requires.0.exact.logs
+shape_of-logs c = let at = c in at.loop-s.invariant.going.known.exact.logs ∙ sym at.requires.known.exact.logs
 
 pub shape_of-history : goal.shape_of-history
-shape_of-history c = let at = c in at.loop-s.invariant.going.known.exact.history ∙ sym at.requires.0.exact.history
+shape_of-history c = let at = c in at.loop-s.invariant.going.known.exact.history ∙ sym at.requires.known.exact.history
 
 pub shape_of-lengths : goal.shape_of-lengths
-shape_of-lengths c = let at = c in at.loop-s.invariant.going.known.exact.lengths ∙ sym at.requires.0.exact.lengths
+shape_of-lengths c = let at = c in at.loop-s.invariant.going.known.exact.lengths ∙ sym at.requires.known.exact.lengths
 
 pub shape_of-numbers : goal.shape_of-numbers
 shape_of-numbers c = c.loop-s.invariant.long

@@ -1,16 +1,11 @@
 -- The loop of `tally_events`.
-use Prim.Native.Nat.{ℕ, ◌+◌, ◌-◌}
-use mathlib.Core.Path.{sym, ◌∙◌}
+use Prim.Native.Nat.{ℕ, ◌-◌}
 use mathlib.Core.List.{List, []}
-use native.Mathlib.Omega.{arith}
 use lib.ListN.{length}
-use borrow.Author.Rules.{rules}
-use Rattle.laws.proofs.Number.{bounds}
 use Rattle.tables.specs.Tables.{Tables}
-use Rattle.tables.specs.Event.{Called}
 use Rattle.trace.specs.Stretch.{ran_on}
 use Rattle.tally.specs.Stretch.{told_on}
-use Rattle.tally.proofs.Tallying.{few_more, Met, meets, Tallying, tallying_starts, tallying_goes, tallying_ends}
+use Rattle.tally.proofs.Tallying.{Tallying}
 use Rattle.tally.proofs.tally_events.Given as goal
 
 abbrev pub tables_at : (used counts held candidates makers values changed registers snoops logs history lengths : List ℕ) → Tables
