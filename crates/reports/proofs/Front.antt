@@ -22,22 +22,20 @@ use Rattle.rules.specs.Sound.{Each}
 use Rattle.tables.specs.Tables.{Tables}
 use Rattle.tables.specs.Lie.{pool_of}
 use Rattle.tables.specs.Known.{Exact, Known}
-use Rattle.fields.specs.declared.Stage.{Stage}
 use Rattle.fields.specs.declared.Stage.TheVariants.{First, Events, Ended}
 use Rattle.text.specs.Cycle.{cycles_text, Printable}
-use Rattle.cycles.specs.declared.Cycle.{Cycle}
 use Rattle.cycles.specs.declared.Tally.{Tally}
 use Rattle.cycles.specs.Tally.{tally_after, tallies_of, Few}
 use Rattle.cycles.specs.Slice.{put_cycles, put_from}
 use Rattle.cycles.proofs.Small.{SmallNet, tallies_small}
 use Rattle.trace.specs.Replay.{Left, untouched, stands}
-use Rattle.trace.specs.Stretch.{stretch, RanOn, ran_on}
+use Rattle.trace.specs.Stretch.{stretch, ran_on}
 use Rattle.tally.specs.declared.Told.{Told}
 use Rattle.tally.specs.Stretch.{Telling, told_of, opened, ToldOn, told_on, Tells}
 use Rattle.tally.proofs.Tallying.{ran_told, tallies_most}
 use Rattle.parts.specs.declared.Progress.{Progress}
 use Rattle.parts.specs.declared.Part.{Part}
-use Rattle.parts.specs.Work.{Work, rest_work}
+use Rattle.parts.specs.Work.{rest_work}
 use Rattle.parts.specs.Arrays as arrays
 use Rattle.parts.specs.Arrays.{is_small, front, Long}
 use Rattle.parts.specs.Begun.{whole_part, whole_work, GoesOn, StaysSo}

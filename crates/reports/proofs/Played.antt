@@ -9,17 +9,15 @@ use mathlib.Core.Path.{◌≡◌, refl, sym, ap, ◌∙◌}
 use mathlib.Core.Bool.{Bool, true, false, cond}
 use mathlib.Core.List.{List, [], ◌∷◌, ◌++◌, append-nil, append_assoc, flatten}
 use native.Mathlib.Omega.{arith}
-use lib.ListN.{length, drop, length-append}
+use lib.ListN.{length, drop}
 use lib.Seq.{drop-append-le}
 use Rattle.rules.specs.declared.Sizes.{Sizes}
 use Rattle.rules.specs.declared.Event.{Event}
 use Rattle.rules.specs.declared.Refusal.TheVariants.{WrongSize, StopsShort}
 use Rattle.rules.specs.Pool.{Pool, fresh}
 use Rattle.rules.specs.Outcome.{after}
-use Rattle.fields.specs.declared.Stage.{Stage}
-use Rattle.fields.specs.declared.Stage.TheVariants.{First, Events, Ended}
+use Rattle.fields.specs.declared.Stage.TheVariants.{First, Ended}
 use Rattle.fields.specs.declared.Reader.{Reader}
-use Rattle.fields.specs.declared.Field.{Field}
 use Rattle.fields.specs.declared.Field.TheVariants as field
 use Rattle.fields.specs.declared.Read.{Read}
 use Rattle.fields.specs.Field.{read_at}
@@ -27,17 +25,15 @@ use Rattle.fields.proofs.Comes.{reader_at, Comes, a_refusal, the_sizes, read_com
 use Rattle.cycles.specs.declared.Cycle.{Cycle}
 use Rattle.cycles.specs.declared.Tally.{Tally}
 use Rattle.cycles.specs.Cycles.{cycles_of}
-use Rattle.cycles.specs.Tally.{tally_after, tallies_of}
 use Rattle.cycles.proofs.KeptUp.{tallies_are, tallies_append, tally_append}
-use Rattle.trace.specs.declared.Ending.{Ending}
 use Rattle.trace.specs.declared.Ending.TheVariants.{Stopped}
 use Rattle.trace.specs.declared.Stand.{Stand}
 use Rattle.trace.specs.declared.Stand.TheVariants as stand
 use Rattle.trace.specs.declared.Stood.{Stood}
-use Rattle.trace.specs.Replay.{Left, untouched, stands, Replayed, with_lines, at_start, replayed}
+use Rattle.trace.specs.Replay.{Left, untouched, stands, Replayed, with_lines, at_start}
 use Rattle.trace.specs.Stretch.{behind, stretch}
 use Rattle.trace.specs.Stand.{waits}
-use Rattle.tally.specs.Report.{Reported, reported}
+use Rattle.tally.specs.Report.{reported}
 use Rattle.tally.proofs.Whole.{cycles_first, cycles_none}
 use Rattle.parts.specs.Part.{Taken, stand_on, rest_taken, stops_at, first_taken, part_taken, moved_ending, over, played}
 use Rattle.parts.specs.Work.{Work, no_work, rest_work, first_work, part_work}

@@ -667,6 +667,7 @@ pub extern "C" fn yuyarisun_free_records(n: u16, used: &[u64]) -> usize
 }
 
 // The event of a trace's tag, with its numbers in the trace's order; collect, if it is no other's.
+#[tactic(auto, unfolding(crate::specs::Exported::event_of))]
 fn event_of(tag: u8, a: u8, b: u8, c: u8, d: u8) -> Event
     ensures { result ≡ event_of tag a b c d }
 {

@@ -1,0 +1,13 @@
+-- Each arm is an equation of the definition.
+use mathlib.Core.Path.{refl}
+use Rattle.yuyarisun.specs.Several.{ending_free}
+use borrow.Author.Rules.{rules}
+use Rattle.yuyarisun.proofs.ending_free.Goals as goal
+
+pub returns-in-Whole : goal.returns-in-Whole
+unfolding ending_free
+returns-in-Whole c = rw c.in-Whole.is refl
+
+pub returns-in-Stopped : goal.returns-in-Stopped
+unfolding ending_free
+returns-in-Stopped c = rw c.in-Stopped.is refl
