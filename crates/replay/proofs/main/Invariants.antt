@@ -1,20 +1,5 @@
--- The loop of `main`.
-use Prim.Native.Nat.{◌+◌, ◌≤◌, ◌<◌}
-use mathlib.Core.Path.{◌≡◌, sym}
-use native.Mathlib.Omega.{arith}
-use borrow.Author.Rules.{rules}
-use lib.ListN.{length, take}
-use Rattle.parts.specs.Arrays.{aside}
-use Rattle.parts.proofs.Front.{counted}
-use Rattle.parts.proofs.Turn.{place_fits}
-use Rattle.replay.proofs.Turn.{Ready, ready_first, text_waiting, text_place}
-use Rattle.replay.proofs.main.Reads as reads
-use Rattle.replay.proofs.main.Lts as lts
-use Rattle.parts.proofs.part_text.Reads as part-text-reads
-use Rattle.parts.proofs.put_ending.Reads as put-ending-reads
-use Rattle.input.proofs.keep_rest.Reads as keep-rest-reads
-use Rattle.replay.proofs.print.Reads as print-reads
-use Rattle.replay.proofs.read_more.Reads as read-more-reads
+-- The turns of `main`: each begins `Ready`. They are counted down.
+use Rattle.replay.proofs.Turn.{Ready}
 use Rattle.replay.proofs.main.Given as goal
 
 abbrev pub invariant-loop-turns : goal.invariant-loop-turns
