@@ -4,7 +4,7 @@
 --     cycle_is_there               a cycle that a run has stands among its closed cycles, behind those that closed before it opened: that is its ordinal
 -- Assumes nothing.
 use mathlib.Core.Path.{◌≡◌, refl, sym, ap, ◌∙◌, subst}
-use mathlib.Core.Bool.{Bool, true, false, cond, not, ◌&&◌, ◌||◌}
+use mathlib.Core.Bool.{Bool, true, false, cond, ◌&&◌, ◌||◌}
 use mathlib.Core.List.{List, [], ◌∷◌, ◌++◌}
 use borrow.Author.Tests.{eqb-true, eqb-false, eq-eqb, ne_eqb, not-true}
 use Rattle.rules.specs.declared.Sizes.{Sizes}
@@ -13,7 +13,7 @@ use Rattle.rules.specs.Pool.{Pool}
 use Rattle.rules.specs.Outcome.{outcome, after}
 use Rattle.rules.specs.Sound.{Each}
 use Rattle.laws.proofs.Tests.{never, and_left, and_right}
-use Rattle.promises.specs.Cycle.{Closes, ToClose, closing, going_on, Cycle}
+use Rattle.promises.specs.Cycle.{ToClose, closing, going_on, Cycle}
 use Rattle.cycles.specs.Cycles.{is_opening, is_close, ClosedCycle, up_to_close, is_closed_by, closed_cycles}
 use Rattle.cycles.proofs.KeptUp.{at_rest, opens_is, closes_is, after_append}
 

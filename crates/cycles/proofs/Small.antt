@@ -3,17 +3,17 @@
 --     count_sum_most            the counts of a sound pool
 --     SmallNet, tallies_small   the cycles of a run from a sound pool
 -- Assumes nothing.
-use Prim.Native.Nat.{ℕ, suc, ◌+◌, ◌*◌, ◌≤◌, ◌<◌}
-use mathlib.Core.Path.{◌≡◌, subst}
+use Prim.Native.Nat.{ℕ, suc, ◌*◌, ◌≤◌}
+use mathlib.Core.Path.{◌≡◌}
 use mathlib.Core.Bool.{Bool, true, false, cond}
-use mathlib.Core.List.{List, [], ◌∷◌, ◌++◌}
+use mathlib.Core.List.{List, [], ◌∷◌}
 use native.Mathlib.Omega.{arith}
 use native.Mathlib.Nat.{mul-le-mul_right}
 use lib.ListN.{length}
 use lib.Signed.{mag}
 use Rattle.rules.specs.declared.Sizes.{Sizes}
 use Rattle.rules.specs.declared.Event.{Event}
-use Rattle.rules.specs.Size.{in_range, links}
+use Rattle.rules.specs.Size.{in_range}
 use Rattle.rules.specs.Pool.{Pool}
 use Rattle.rules.specs.Outcome.{outcome}
 use Rattle.rules.specs.Sound.{Each, Sound}

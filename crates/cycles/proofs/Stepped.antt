@@ -4,7 +4,7 @@
 --     less_most                  a difference is no further from nought than its two numbers
 -- Assumes nothing.
 use Prim.Native.Nat.{ℕ, zero, suc, ◌+◌, ◌-◌, ◌*◌, ◌≤◌}
-use mathlib.Core.Path.{◌≡◌, refl, sym, ap, ◌∙◌}
+use mathlib.Core.Path.{◌≡◌, sym, ap, ◌∙◌}
 use mathlib.Core.Bool.{Bool, true, false, cond}
 use native.Mathlib.Omega.{arith}
 use native.Mathlib.Nat.{zero-add}
@@ -15,7 +15,7 @@ use Rattle.rules.specs.declared.Answer.{Answer}
 use Rattle.rules.specs.declared.Answer.TheVariants.{Fresh, Made, Moved, Dropped, Loaded, Stored, Stepped, Freed, Refused}
 use Rattle.cycles.specs.declared.Tally.{Tally}
 use Rattle.cycles.specs.Cycles.{opens_at, freed_by, less}
-use Rattle.cycles.specs.Tally.{begun, taken_at, tally_step, Few, Steps}
+use Rattle.cycles.specs.Tally.{begun, taken_at, tally_step, Steps}
 
 taken_most : (before had has : ℕ) → has ≤ 65535 → taken_at before had has ≤ 65535
 taken_most before had has most = by_phase (eqb before 2)

@@ -3,7 +3,6 @@
 use mathlib.Core.Path.{◌≡◌, refl}
 use mathlib.Core.List.{List, [], ◌∷◌, ◌++◌}
 use lib.IntN.{pos, negsuc}
-use Rattle.rules.specs.declared.Sizes.{Sizes}
 use Rattle.rules.specs.declared.Event.{Event}
 use Rattle.rules.specs.declared.Event.TheVariants.{Make, Drop, Store, Collect}
 use Rattle.rules.specs.Pool.{fresh}

@@ -9,7 +9,7 @@
 --     sum, count_sum, net_in       "the sum of all counts at the close less that sum at the opening"
 --     numbers_of, cycles_of        the numbers of a closed cycle, and of all of a run
 -- Assumes nothing.
-use Rattle.std.specs.Prelude.{ℕ, zero, ◌+◌, ◌-◌, Bool, true, false, cond, not, ◌&&◌, ◌||◌, List, [], ◌∷◌, map, eqb, ℤ, pos, ◌-ℤ◌, length}
+use Rattle.std.specs.Prelude.{ℕ, ◌+◌, ◌-◌, Bool, false, cond, not, ◌&&◌, ◌||◌, List, [], ◌∷◌, map, eqb, ℤ, pos, ◌-ℤ◌, length}
 use Rattle.rules.specs.declared.Sizes.{Sizes}
 use Rattle.rules.specs.declared.Event.{Event}
 use Rattle.rules.specs.declared.Answer.{Answer}

@@ -27,7 +27,7 @@ use Rattle.tables.specs.Bits.{word_count, marks_in, words_of}
 use Rattle.tables.specs.Tables.{Tables, put_used, put_held, put_candidates, put_changed}
 use Rattle.tables.specs.Lie.{bits, pool_of, tables_of}
 use Rattle.tables.specs.Known.{Known}
-use Rattle.tables.specs.Event.{Called, written, event_on}
+use Rattle.tables.specs.Event.{written, event_on}
 use Rattle.tables.proofs.Packed.{length-words_of, packed_words, marks_words, length-marks_in}
 use Rattle.tables.proofs.Marks.{marks-bits}
 use Rattle.events.specs.Old.{old_pool_of, old_tables_of, old_written, old_event_on, stands_for, old_form, PackedIn, PackedWords}

@@ -52,20 +52,20 @@ module _ (bytes : List ℕ) (place step : ℕ) where
     where
       by_tag : (x : Bool) → eqb tag sizes_tag ≡ x → (y : Bool) → eqb tag end_tag ≡ y → Unrefused (refusals bytes place reader)
           → (n : ℕ) (e : Event) → (taken bytes place reader).field ≡ field.Event n e → Says bytes place step
-      by_tag true isSizes y isEnd passed n e h =
-          let other = rw isSizes at h in
+      by_tag true is_sizes y is_end passed n e h =
+          let other = rw is_sizes at h in
           absurd (let z : ◌≡◌ {A = ℕ} 0 1 = cc in omega arith)
-      by_tag false isSizes true isEnd passed n e h =
-          let other = rw (isSizes, isEnd) at h in
+      by_tag false is_sizes true is_end passed n e h =
+          let other = rw (is_sizes, is_end) at h in
           absurd (let z : ◌≡◌ {A = ℕ} 0 1 = cc in omega arith)
-      by_tag false isSizes false isEnd passed n e h =
-          let test = rw (isSizes, isEnd) at passed.1.1.1.1.0 in
-          let same = other_payload tag (two_at bytes (place + 1)) (eqb-false tag sizes_tag isSizes) in
+      by_tag false is_sizes false is_end passed n e h =
+          let test = rw (is_sizes, is_end) at passed.1.1.1.1.0 in
+          let same = other_payload tag (two_at bytes (place + 1)) (eqb-false tag sizes_tag is_sizes) in
           record {
             begins = ltb-false (length bytes) (place + 3) passed.0;
             known = eqb-false (payload_of tag) 0 (or_left _ (eqb tag sizes_tag) passed.1.0);
-            no_sizes = eqb-false tag sizes_tag isSizes;
-            no_end = eqb-false tag end_tag isEnd;
+            no_sizes = eqb-false tag sizes_tag is_sizes;
+            no_end = eqb-false tag end_tag is_end;
             long = eqb-true (two_at bytes (place + 1)) (payload_at bytes place) (not-false _ passed.1.1.0) ∙ same;
             whole = omega (arith, ltb-false (length bytes) (place + 3 + payload_at bytes place) passed.1.1.1.0, same);
             next = eqb-true (four_at bytes (place + 3)) (step + 1) (not-false _ test);

@@ -91,9 +91,9 @@ module _ {bytes : List ℕ} {n : ℕ} {part : List ℕ} {i : ℕ} (alike : Alike
       next = omega arith
 
       by_tag : (x : Bool) → eqb tag sizes_tag ≡ x → (y : Bool) → eqb tag end_tag ≡ y → taken bytes (n + i) reader ≡ moved n (taken part i reader)
-      by_tag true isSizes y isEnd = rw (tag_alike, long_alike, isSizes, sizes_alike (payload_at part i), next)
-      by_tag false isSizes true isEnd = rw (tag_alike, long_alike, isSizes, isEnd, next)
-      by_tag false isSizes false isEnd = rw (tag_alike, long_alike, isSizes, isEnd, four_alike (n + i + 3) (i + 3) (omega arith) (omega arith) (omega arith), event_alike tag, next)
+      by_tag true is_sizes y is_end = rw (tag_alike, long_alike, is_sizes, sizes_alike (payload_at part i), next)
+      by_tag false is_sizes true is_end = rw (tag_alike, long_alike, is_sizes, is_end, next)
+      by_tag false is_sizes false is_end = rw (tag_alike, long_alike, is_sizes, is_end, four_alike (n + i + 3) (i + 3) (omega arith) (omega arith) (omega arith), event_alike tag, next)
 
   decide_alike : (reader : Reader) (tests : List Test) (x : Read) → decide (n + i) reader tests (moved n x) ≡ moved n (decide i reader tests x)
   unfolding decide moved

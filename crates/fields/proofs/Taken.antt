@@ -100,15 +100,15 @@ module _ (bytes : List ℕ) (place : ℕ) (reader : Reader) where
 
       by_tag : (x : Bool) → eqb tag sizes_tag ≡ x → (y : Bool) → eqb tag end_tag ≡ y → Unrefused (refusals bytes place reader)
           → (step : ℕ) (e : Event) → (taken bytes place reader).field ≡ field.Event step e → Follows step
-      by_tag true isSizes y isEnd passed step e h =
-          let other = rw isSizes at h in
+      by_tag true is_sizes y is_end passed step e h =
+          let other = rw is_sizes at h in
           absurd (let z : ◌≡◌ {A = ℕ} 0 1 = cc in omega arith)
-      by_tag false isSizes true isEnd passed step e h =
-          let other = rw (isSizes, isEnd) at h in
+      by_tag false is_sizes true is_end passed step e h =
+          let other = rw (is_sizes, is_end) at h in
           absurd (let z : ◌≡◌ {A = ℕ} 0 1 = cc in omega arith)
-      by_tag false isSizes false isEnd passed step e h =
-          let event = rw (isSizes, isEnd) at h in
+      by_tag false is_sizes false is_end passed step e h =
+          let event = rw (is_sizes, is_end) at h in
           let same : four_at bytes i ≡ step = cc in
-          let test = rw (isSizes, isEnd) at passed.1.1.1.1.0 in
+          let test = rw (is_sizes, is_end) at passed.1.1.1.1.0 in
           let after = eqb-true (four_at bytes i) (reader.step + 1) (not-false _ test) in
           (omega arith, omega (arith, small i, small (i + 1), small (i + 2), small (i + 2 + 1)))

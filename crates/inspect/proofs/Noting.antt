@@ -6,7 +6,7 @@
 --     length-entered                 there is a last value for each link, as before
 --     entered-after, valued-after    what is noted after a test that may have failed
 -- Assumes nothing.
-use Prim.Native.Nat.{ℕ, suc, ◌+◌, ◌*◌, ◌%◌}
+use Prim.Native.Nat.{ℕ, suc, ◌+◌, ◌*◌}
 use mathlib.Core.Path.{◌≡◌, refl, sym, ap, ◌∙◌, subst}
 use mathlib.Core.Bool.{Bool, true, ◌&&◌, and-true, and_assoc}
 use mathlib.Core.List.{List, [], ◌∷◌, ◌++◌}

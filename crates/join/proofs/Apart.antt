@@ -15,7 +15,6 @@ use lib.ListN.{length, get_or, take, drop, take-append-drop, length-drop}
 use lib.Seq.{ext_get_or, get_or-drop, drop-drop}
 use Rattle.rules.specs.declared.Sizes.{Sizes}
 use Rattle.fields.specs.declared.Stage.TheVariants.{First, Events, Ended}
-use Rattle.fields.specs.declared.Field.TheVariants as field
 use Rattle.fields.specs.declared.Read.{Read}
 use Rattle.fields.specs.Field.{byte_at, payload_of, read_at}
 use Rattle.fields.proofs.Order.{behind_end_lem}

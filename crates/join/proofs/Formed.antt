@@ -213,11 +213,11 @@ module _ (bytes : List ℕ) (place : ℕ) where
     where
       by_tag : (x : Bool) → eqb tag sizes_tag ≡ x → (y : Bool) → eqb tag end_tag ≡ y → Unrefused (refusals bytes place at_first)
           → (s : Sizes) → (taken bytes place at_first).field ≡ field.Sizes s → SaysSizes bytes place s × ((taken bytes place at_first).next ≡ place + (3 + payload_at bytes place))
-      by_tag true isSizes y isEnd passed s h =
-          let is = eqb-true tag sizes_tag isSizes in
-          let read = rw isSizes at h in
+      by_tag true is_sizes y is_end passed s h =
+          let is = eqb-true tag sizes_tag is_sizes in
+          let read = rw is_sizes at h in
           let sizes : sizes_at bytes (place + 3) (payload_at bytes place) ≡ s = cc in
-          let test = rw isSizes at passed.1.1.1.1.0 in (
+          let test = rw is_sizes at passed.1.1.1.1.0 in (
             record {
               tag = is;
               long = eqb-true (two_at bytes (place + 1)) (payload_at bytes place) (not-false _ passed.1.1.0);
@@ -225,13 +225,13 @@ module _ (bytes : List ℕ) (place : ℕ) where
               sizes = sym sizes;
               range = rw (← sizes) (not-false _ test);
             },
-            rw isSizes (omega arith),
+            rw is_sizes (omega arith),
           )
-      by_tag false isSizes true isEnd passed s h =
-          let other = rw (isSizes, isEnd) at h in
+      by_tag false is_sizes true is_end passed s h =
+          let other = rw (is_sizes, is_end) at h in
           absurd (let z : ◌≡◌ {A = ℕ} 0 1 = cc in omega arith)
-      by_tag false isSizes false isEnd passed s h =
-          let other = rw (isSizes, isEnd) at h in
+      by_tag false is_sizes false is_end passed s h =
+          let other = rw (is_sizes, is_end) at h in
           absurd (let z : ◌≡◌ {A = ℕ} 0 1 = cc in omega arith)
 
   -- and where its bytes say so, it is read

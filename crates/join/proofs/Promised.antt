@@ -71,13 +71,13 @@ part_asks bytes place last events field = by_tag (eqb tag sizes_tag) refl (eqb t
 
     by_tag : (x : Bool) → eqb tag sizes_tag ≡ x → (y : Bool) → eqb tag end_tag ≡ y
         → payload_test tag payload bytes (place + 3) (record { stage = Events; step = expected bytes place last events }) ≡ part_test tag payload bytes (place + 3) last events
-    by_tag true isSizes y isEnd = rw isSizes
-    by_tag false isSizes true isEnd =
-        let count = sym (expects_end bytes place last events (eqb-true tag end_tag isEnd)) in
-        rw (isSizes, isEnd, count)
-    by_tag false isSizes false isEnd =
-        let test = by_number isEnd (ltb last number) refl in
-        rw (isSizes, isEnd) (λ j. record { when = test j; why = WrongStep })
+    by_tag true is_sizes y is_end = rw is_sizes
+    by_tag false is_sizes true is_end =
+        let count = sym (expects_end bytes place last events (eqb-true tag end_tag is_end)) in
+        rw (is_sizes, is_end, count)
+    by_tag false is_sizes false is_end =
+        let test = by_number is_end (ltb last number) refl in
+        rw (is_sizes, is_end) (λ j. record { when = test j; why = WrongStep })
 
 -- ---- one result
 

@@ -17,7 +17,6 @@ use native.Mathlib.Nat.{add-zero}
 use lib.Dec.{eqb, ltb}
 use lib.ListN.{length, length-append}
 use lib.Seq.{append_snoc}
-use Rattle.rules.specs.declared.Sizes.{Sizes}
 use Rattle.rules.specs.declared.Event.{Event}
 use Rattle.rules.specs.declared.Refusal.TheVariants.{ExtraByte}
 use Rattle.rules.specs.View.{bit}
@@ -145,14 +144,14 @@ module _ (bytes : List ℕ) (place step : ℕ) where
     where
       by_tag : (x : Bool) → eqb tag sizes_tag ≡ x → (y : Bool) → eqb tag end_tag ≡ y
           → (n : ℕ) (e : Event) → (taken bytes place reader).field ≡ field.Event n e → n ≡ four_at bytes (place + 3)
-      by_tag true isSizes y isEnd n e h =
-          let other = rw isSizes at h in
+      by_tag true is_sizes y is_end n e h =
+          let other = rw is_sizes at h in
           absurd (let z : ◌≡◌ {A = ℕ} 0 1 = cc in omega arith)
-      by_tag false isSizes true isEnd n e h =
-          let other = rw (isSizes, isEnd) at h in
+      by_tag false is_sizes true is_end n e h =
+          let other = rw (is_sizes, is_end) at h in
           absurd (let z : ◌≡◌ {A = ℕ} 0 1 = cc in omega arith)
-      by_tag false isSizes false isEnd n e h =
-          let event = rw (isSizes, isEnd) at h in
+      by_tag false is_sizes false is_end n e h =
+          let event = rw (is_sizes, is_end) at h in
           let same : n ≡ four_at bytes (place + 3) = cc in
           same
 
@@ -168,21 +167,21 @@ module _ (bytes : List ℕ) (place step : ℕ) where
     where
       by_tag : (x : Bool) → eqb tag sizes_tag ≡ x → (y : Bool) → eqb tag end_tag ≡ y → Unrefused (refusals bytes place reader)
           → (taken bytes place reader).field ≡ field.End → EndSays bytes place step (taken bytes place reader)
-      by_tag true isSizes y isEnd passed h =
-          let other = rw isSizes at h in
+      by_tag true is_sizes y is_end passed h =
+          let other = rw is_sizes at h in
           absurd (let z : ◌≡◌ {A = ℕ} 0 1 = cc in omega arith)
-      by_tag false isSizes true isEnd passed h =
-          let is = eqb-true tag end_tag isEnd in
-          let payload : payload_at bytes place ≡ 4 = other_payload tag (two_at bytes (place + 1)) (eqb-false tag sizes_tag isSizes) ∙ ap payload_of is ∙ end_payload in
-          let test = rw (isSizes, isEnd) at passed.1.1.1.1.0 in
+      by_tag false is_sizes true is_end passed h =
+          let is = eqb-true tag end_tag is_end in
+          let payload : payload_at bytes place ≡ 4 = other_payload tag (two_at bytes (place + 1)) (eqb-false tag sizes_tag is_sizes) ∙ ap payload_of is ∙ end_payload in
+          let test = rw (is_sizes, is_end) at passed.1.1.1.1.0 in
           record {
             tag = is;
             long = eqb-true (two_at bytes (place + 1)) (payload_at bytes place) (not-false _ passed.1.1.0) ∙ payload;
             count = eqb-true (four_at bytes (place + 3)) step (not-false _ test);
-            next_is = rw (isSizes, isEnd) (omega (arith, payload));
+            next_is = rw (is_sizes, is_end) (omega (arith, payload));
           }
-      by_tag false isSizes false isEnd passed h =
-          let other = rw (isSizes, isEnd) at h in
+      by_tag false is_sizes false is_end passed h =
+          let other = rw (is_sizes, is_end) at h in
           absurd (let z : ◌≡◌ {A = ℕ} 0 1 = cc in omega arith)
 
 -- the next field of a part that is whole: its end, or an event above the previous one

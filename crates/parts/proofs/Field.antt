@@ -127,8 +127,8 @@ module _ (part more : List ℕ) (i : ℕ) (lies : WholeAt part i) where
   board_same = same_choice (eqb payload 10) (λ ten. let long = eqb-true payload 10 ten in two_same (i + 3 + 8) (omega arith)) (λ none. refl)
 
   sizes_same : eqb tag sizes_tag ≡ true → sizes_at (part ++ more) (i + 3) payload ≡ sizes_at part (i + 3) payload
-  sizes_same isSizes =
-      let long = sizes_payload tag (two_at part (i + 1)) (eqb-true tag sizes_tag isSizes) in
+  sizes_same is_sizes =
+      let long = sizes_payload tag (two_at part (i + 1)) (eqb-true tag sizes_tag is_sizes) in
       λ k. record {
         n = two_same (i + 3) (omega arith) k;
         k = two_same (i + 3 + 2) (omega arith) k;
@@ -174,9 +174,9 @@ module _ (part more : List ℕ) (i : ℕ) (lies : WholeAt part i) where
   test_same reader =
       (λ k. payload_test (tag_same k) (payload_same k) (part ++ more) (i + 3) reader)
       ∙ same_choice (eqb tag sizes_tag)
-      (λ isSizes. λ k. record { when = not (in_range (sizes_same isSizes k)); why = WrongSize })
+      (λ is_sizes. λ k. record { when = not (in_range (sizes_same is_sizes k)); why = WrongSize })
       (λ other. same_choice (eqb tag end_tag)
-      (λ isEnd. λ k. record { when = not (eqb (four_same k) reader.step); why = WrongCount })
+      (λ is_end. λ k. record { when = not (eqb (four_same k) reader.step); why = WrongCount })
       (λ event. λ k. record { when = not (eqb (four_same k) (reader.step + 1)); why = WrongStep }))
 
   taken_same : (reader : Reader) → taken (part ++ more) i reader ≡ taken part i reader
@@ -184,9 +184,9 @@ module _ (part more : List ℕ) (i : ℕ) (lies : WholeAt part i) where
   taken_same reader =
       rw (tag_same, long_same)
       (same_choice (eqb tag sizes_tag)
-      (λ isSizes. λ k. record { field = field.Sizes (sizes_same isSizes k); next = i + 3 + payload; reader = record { stage = Events; step = 0 } })
+      (λ is_sizes. λ k. record { field = field.Sizes (sizes_same is_sizes k); next = i + 3 + payload; reader = record { stage = Events; step = 0 } })
       (λ other. same_choice (eqb tag end_tag)
-      (λ isEnd. refl)
+      (λ is_end. refl)
       (λ event. λ k.
       record {
         field = field.Event (four_same k) (event_same other k);

@@ -34,7 +34,7 @@ use Rattle.fresh.specs.Fits.{is_exact, fits, refused_on}
 use Rattle.fresh.specs.Fresh.{made_fresh}
 use Rattle.fresh.specs.Free.{free_in}
 use Rattle.fresh.proofs.Free.{free_marks_lem}
-use Rattle.events.specs.Old.{old_exact, old_written, old_event_on, stands_for, old_form, PackedIn, PackedWords}
+use Rattle.events.specs.Old.{old_exact, old_written, stands_for, old_form, PackedIn, PackedWords}
 use Rattle.events.proofs.StandsFor.{same_length, same_pool, same_tables, event_same, event_packed}
 use Rattle.pool.specs.Calls.{called}
 use Rattle.pool.specs.Old.{old_fits, old_sound, old_fresh, old_called}

@@ -9,7 +9,7 @@
 
 ghost use Rattle.std.specs.Prelude.{◌≡◌, false, ℕ, ◌+◌, ◌-◌, ◌*◌, ◌≤◌, ◌<◌, length, get_or, replicate};
 ghost use Rattle.rules.specs.Size.{links, link_number};
-ghost use Rattle.rules.specs.Collect.{unchanged as unchangedIn, has_child, reclaimed as reclaimedIn, empties as emptiesIn, frees as freesIn};
+ghost use Rattle.rules.specs.Collect.{unchanged as unchanged_in, has_child, reclaimed as reclaimed_in, empties as empties_in, frees as frees_in};
 ghost use Rattle.tables.specs.Bits.{digits, word_count, mark_at, only_standing};
 ghost use Rattle.tables.specs.Tables.{Tables};
 ghost use Rattle.tables.specs.Lie.{pool_of};
@@ -53,7 +53,7 @@ fn passed_over(n: u16, used: &[u64], held: &[u64], candidates: &[u64], a: u16) -
 // "has all changed marks off"
 fn unchanged(s: Sizes, changed: &[u64], a: RecordNumber) -> bool
     requires { RecordOf s a × (length changed.now ≡ word_count (links s)) }
-    ensures { (t : Tables) (c : Collector) → result ≡ unchangedIn s (pool_of s (marks_on changed.now t) c) a }
+    ensures { (t : Tables) (c : Collector) → result ≡ unchanged_in s (pool_of s (marks_on changed.now t) c) a }
 {
     let mut f = 0;
     while f < s.k {
@@ -109,7 +109,7 @@ fn reclaimed(
 ) -> RecordNumber
     requires { SomePool s (reclaims_on used.now counts.now held.now candidates.now values.now changed.now) }
     ensures { ((t : Tables) (c : Collector) → let at : Tables = reclaims_on used.now counts.now held.now candidates.now values.now changed.now t in
-        Known s at c → result ≡ reclaimedIn s (pool_of s at c)) }
+        Known s at c → result ≡ reclaimed_in s (pool_of s at c)) }
 {
     let end = wide(s.k);
     let mut a = 1;
@@ -149,7 +149,7 @@ fn empties(
     a: RecordNumber,
 )
     requires { Has InPool s (empties_on counts.old candidates.old values.old changed.now) a }
-    ensures { Leaves InPool s (empties_on counts.old candidates.old values.old changed.now) a (emptiesIn s a)
+    ensures { Leaves InPool s (empties_on counts.old candidates.old values.old changed.now) a (empties_in s a)
         (empties_on counts.new candidates.new values.new changed.now) }
 {
     let mut f = 0;
@@ -176,7 +176,7 @@ fn frees(
     a: RecordNumber,
 )
     requires { Has Freeable s (frees_on used.old counts.old candidates.old values.old changed.now) a }
-    ensures { Leaves Freeable s (frees_on used.old counts.old candidates.old values.old changed.now) a (freesIn s a)
+    ensures { Leaves Freeable s (frees_on used.old counts.old candidates.old values.old changed.now) a (frees_in s a)
         (frees_on used.new counts.new candidates.new values.new changed.now) }
 {
     empties(s, counts, candidates, values, changed, a);

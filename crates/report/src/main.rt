@@ -20,7 +20,12 @@ use std::io::{Eprint, Print, Read};
 use trace::Stand;
 
 // A read that fails is said on standard error, and then nobody knows what follows.
-fn read_more<R: Read>(rt: &(impl Alloc + Eprint), stream: &mut R, input: &mut [u8], left: usize) -> Option<usize>
+fn read_more<R: Read>(
+    rt: &(impl Alloc + Eprint),
+    stream: &mut R,
+    input: &mut [u8],
+    left: usize,
+) -> Option<usize>
     requires { left ≤ length input.old }
     ensures { IfSome result (λ n. Reads input.old left n input.new) }
 {

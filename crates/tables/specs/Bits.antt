@@ -4,7 +4,7 @@
 --     bits_of             the bits of words of 64
 --     word_count          how many words so many marks take
 --     marks_in, words_of   the marks that words hold, and the words of some marks
---     mark_at, marked     one mark of words, and words of which one mark is another; markRecord: the mark of a record
+--     mark_at, marked     one mark of words, and words of which one mark is another; mark_record: the mark of a record
 --     Packed             words whose unused bits are 0
 --     first_off, ones_of   the first mark that is off, and how many are on
 --     stands, either, both           where a number stands in a table; one of two marks, and both

@@ -1,7 +1,7 @@
 -- The report of a trace, from its bytes. "A program reads a trace and prints for each closed cycle ..; After the last comes 01's `end` line, or its `refused` line."
 -- (document 02, request 7)
 --     cycles_in                    the closed cycles of the events that stand in a trace
---     Reported, reportedOf, reported     a report: these, and how the trace's replay ends
+--     Reported, reported_of, reported     a report: these, and how the trace's replay ends
 -- Assumes nothing.
 use Rattle.std.specs.Prelude.{ℕ, Bool, List, []}
 use Rattle.rules.specs.declared.Sizes.{Sizes}

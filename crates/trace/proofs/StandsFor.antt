@@ -21,17 +21,16 @@ use Rattle.soundness.proofs.Kept.{fresh_is_sound, event_keeps_sound}
 use Rattle.tables.specs.Bits.{word_count, marks_in}
 use Rattle.tables.specs.Tables.{Tables, put_used, put_held, put_candidates, put_changed}
 use Rattle.tables.specs.Lie.{bits, room, tables_of}
-use Rattle.tables.specs.Event.{LentPool}
 use Rattle.tables.specs.Known.{Exact}
 use Rattle.fresh.specs.Fits.{is_exact}
 use Rattle.fresh.proofs.Exact.{exact_tells}
 use Rattle.events.specs.Old.{old_tables_of, old_exact, stands_for, PackedWords}
 use Rattle.events.proofs.StandsFor.{same_length, same_tables}
-use Rattle.trace.specs.Replay.{Left, untouched, stands, Replayed, replayed}
+use Rattle.trace.specs.Replay.{Left, untouched, Replayed, replayed}
 use Rattle.trace.specs.Stretch.{put}
-use Rattle.trace.specs.Traced.{Traced, left_on, traced_by, traced}
+use Rattle.trace.specs.Traced.{Traced, traced_by, traced}
 use Rattle.trace.specs.Promise.{events_of, Shown, a_run, nothing_touched}
-use Rattle.trace.specs.Old.{old_left_on, old_traced_by, old_traced, old_trace}
+use Rattle.trace.specs.Old.{old_traced_by, old_traced, old_trace}
 use Rattle.trace.proofs.Promised.{every_trace}
 
 -- ---- the sizes that are taken

@@ -12,7 +12,7 @@
 ghost use Rattle.std.specs.Prelude.{◌≡◌, ◌+◌, ◌*◌, ◌≤◌, ◌<◌, length, get_or, set};
 ghost use Rattle.rules.specs.Size.{links};
 ghost use Rattle.rules.specs.Pool.{Pool};
-ghost use Rattle.rules.specs.Worker.{chosen as chosenIn};
+ghost use Rattle.rules.specs.Worker.{chosen as chosen_in};
 ghost use Rattle.rules.specs.Outcome.{has_worker, has_register, has_link, has_entry};
 ghost use Rattle.tables.specs.Tables.{Tables, put_registers};
 ghost use Rattle.tables.specs.Bits.{word_count, marks_in};
@@ -84,7 +84,7 @@ fn first_free(used: &[u64], n: u16, from: usize) -> RecordNumber
 // What a make takes, of any pool with these marks and this last made number: "the first free record above the last one made, else the lowest".
 fn chosen(used: &[u64], n: u16, last: u16) -> RecordNumber
     requires { (n ≤ 1024) × (length used.now ≡ word_count n) × (last ≤ n) }
-    ensures { (p : Pool) → p.records.used ≡ marks_in n used.now → p.last.0 ≡ last → result ≡ chosenIn p }
+    ensures { (p : Pool) → p.records.used ≡ marks_in n used.now → p.last.0 ≡ last → result ≡ chosen_in p }
 {
     let above = first_free(used, n, wide(last));
     if above.0 != 0 {

@@ -1,5 +1,5 @@
 -- `advance::moved_on` meets its contract: the tests in the code are the definition's. Assumes nothing.
-use Rattle.std.proofs.Common.{suc, sym, ◌∙◌, add-one, arith, rules, le-leb}
+use Rattle.std.proofs.Common.{suc, sym, ◌∙◌, add-one, arith, le-leb}
 use borrow.Author.Tests.{lt-leb}
 use Rattle.advance.proofs.Moved.{closing-moves, others_move}
 use Rattle.advance.proofs.moved_on.Goals as goal

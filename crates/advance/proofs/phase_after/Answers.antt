@@ -1,5 +1,5 @@
 -- `advance::phase_after` meets its contract. Assumes nothing.
-use Rattle.std.proofs.Common.{refl, ◌∙◌, add-one, arith, rules}
+use Rattle.std.proofs.Common.{refl, ◌∙◌, add-one, arith}
 use Rattle.advance.proofs.After.{after_skipping, after-entries, after_others}
 use Rattle.advance.proofs.phase_after.Goals as goal
 

@@ -1,13 +1,9 @@
 -- The loop of `find`.
-use Prim.Native.Nat.{ℕ, suc, ◌-◌, ◌*◌, ◌≤◌, ◌<◌}
-use mathlib.Core.Path.{◌≡◌, refl, ◌∙◌}
-use native.Mathlib.Omega.{arith}
+use Prim.Native.Nat.{ℕ, ◌*◌, ◌≤◌}
+use mathlib.Core.Path.{◌≡◌}
 use lib.ListN.{length}
-use borrow.Author.Rules.{rules}
 use Rattle.rules.specs.View.{times}
 use Rattle.tables.specs.Lie.{entries}
-use Rattle.laws.proofs.Entries.{old_in_absent}
-use Rattle.count.proofs.Search.{next_below, passed_found, passed_more}
 use Rattle.count.proofs.find.Given as goal
 
 abbrev pub invariant-loop-i : goal.invariant-loop-i

@@ -1,10 +1,8 @@
 -- `cycles::count_sum` meets its contract. The loop's invariant: what has been added up and the counts from the present one on are all. Assumes nothing.
-use Prim.Native.Nat.{suc, ◌+◌, ◌-◌, ◌*◌, ◌≤◌}
+use Prim.Native.Nat.{suc, ◌+◌}
 use mathlib.Core.Path.{◌≡◌, ap}
 use native.Mathlib.Omega.{arith}
 use native.Mathlib.Numerals.{add-one}
-use borrow.Author.Rules.{rules}
-use lib.ListN.{length}
 use Rattle.cycles.proofs.Sum.{sum_from, sum_here, sum_end}
 use Rattle.cycles.proofs.count_sum.Goals as goal
 

@@ -1,11 +1,8 @@
 -- The loop of `count_sum`.
-use Prim.Native.Nat.{suc, ◌+◌, ◌-◌, ◌*◌, ◌≤◌}
-use mathlib.Core.Path.{◌≡◌, ap}
-use native.Mathlib.Omega.{arith}
-use native.Mathlib.Numerals.{add-one}
-use borrow.Author.Rules.{rules}
+use Prim.Native.Nat.{◌+◌, ◌-◌, ◌*◌, ◌≤◌}
+use mathlib.Core.Path.{◌≡◌}
 use lib.ListN.{length}
-use Rattle.cycles.proofs.Sum.{sum_from, sum_here, sum_end}
+use Rattle.cycles.proofs.Sum.{sum_from}
 use Rattle.cycles.proofs.count_sum.Given as goal
 
 abbrev pub invariant-loop-i : goal.invariant-loop-i

@@ -1,7 +1,5 @@
 -- `cycles::net_of` meets its contract: both sums have 31 bits, and so has their difference. Assumes nothing.
-use mathlib.Core.Path.{◌∙◌}
 use native.Mathlib.Omega.{arith}
-use borrow.Author.Rules.{rules}
 use mir.Syntax.{w32}
 use mir.Val.{SFits}
 use mir.Facts.{to_z_pos, to_z-of_z}

@@ -1,11 +1,9 @@
 -- `cycles::put_closed` meets its contract, by the tests of a close and of the room. Assumes nothing.
-use mathlib.Core.Path.{◌≡◌, ap, ◌∙◌}
-use mathlib.Core.Logic.{⊎_elim}
+use mathlib.Core.Path.{ap, ◌∙◌}
 use native.Mathlib.Omega.{arith}
-use borrow.Author.Rules.{rules}
 use lib.ListN.{length}
 use Rattle.cycles.specs.Cycles.{sum}
-use Rattle.cycles.specs.Slice.{closed_now, Puts}
+use Rattle.cycles.specs.Slice.{closed_now}
 use Rattle.cycles.proofs.Placed.{long_put, closed_here, closed_past, closed_none}
 use Rattle.cycles.proofs.put_closed.Goals as goal
 use Rattle.cycles.proofs.put_closed.Goals.{then-cycles-numbers, else-cycles-numbers}
@@ -22,7 +20,7 @@ returns-then-before-after c =
     let at = start.args in
     let close = c.if-before-after.true in
     elim c.if-cycles-numbers.branch [
-      then-cycles-numbers w ↦ closed_here at.cycles at.numbers.now at.t (sum at.counts.now) at.before at.after close w.if-cycles-numbers.true w.closed_cycle.ensures (w.numbers-is ∙ w.put_cycle.ensures)
+      | then-cycles-numbers w ↦ closed_here at.cycles at.numbers.now at.t (sum at.counts.now) at.before at.after close w.if-cycles-numbers.true w.closed_cycle.ensures (w.numbers-is ∙ w.put_cycle.ensures)
       | else-cycles-numbers w ↦ closed_past at.cycles at.numbers.now at.t (sum at.counts.now) at.before at.after close w.if-cycles-numbers.false w.numbers-is
     ]
 

@@ -1,6 +1,5 @@
 -- `cycles::put_cycle` meets its contract: the three numbers have 64 bits with a sign. Assumes nothing.
 use native.Mathlib.Omega.{arith}
-use borrow.Author.Rules.{rules}
 use lib.ListN.{length-set}
 use mir.Syntax.{w32, w64}
 use mir.Val.{SFits}

@@ -1,6 +1,4 @@
 -- `cycles::taken_at` meets its contract, by the test of the phase. Assumes nothing.
-use native.Mathlib.Omega.{arith}
-use borrow.Author.Rules.{rules}
 use borrow.Author.Tests.{eq-eqb, ne_eqb}
 use Rattle.cycles.proofs.taken_at.Goals as goal
 

@@ -1,5 +1,4 @@
 -- `cycles::tally_event` meets its contract: the numbers after the event, and the cycle that closes with it. Assumes nothing.
-use borrow.Author.Rules.{rules}
 use Rattle.cycles.proofs.tally_event.Goals as goal
 
 pub put_closed-cycles-requires : goal.put_closed-cycles-requires

@@ -1,6 +1,5 @@
 -- `cycles::tally_step` meets its contract, by the test of an opening. Assumes nothing.
 use native.Mathlib.Omega.{arith}
-use borrow.Author.Rules.{rules}
 use Rattle.cycles.proofs.Stepped.{taken-room, freed_room, steps_open, steps_on}
 use Rattle.cycles.proofs.tally_step.Goals as goal
 

@@ -3,7 +3,6 @@ use mathlib.Core.Path.{◌≡◌}
 use native.Mathlib.Omega.{arith}
 use Rattle.tables.specs.Tables.{Tables, lent}
 use Rattle.tables.specs.Lie.{pool_of}
-use borrow.Author.Rules.{rules}
 use Rattle.events.proofs.collects.Goals as goal
 use Rattle.events.proofs.collects.Goals.{In_default, Start}
 

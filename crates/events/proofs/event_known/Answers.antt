@@ -1,6 +1,5 @@
 -- `events::event_known` meets its contract: in each arm the event's own contract, at the tables at entry, is what is to be shown. Assumes nothing.
 use Rattle.tables.specs.Tables.{Tables, lent}
-use borrow.Author.Rules.{rules}
 use Rattle.events.proofs.event_known.Goals as goal
 use Rattle.events.proofs.event_known.Goals.{Start}
 

@@ -1,6 +1,5 @@
 -- `fields::board_at` meets its contract: the code is the definition. Assumes nothing.
 use mathlib.Core.Path.{refl}
-use borrow.Author.Rules.{rules}
 use borrow.Author.Tests.{eq-eqb, ne_eqb}
 use Rattle.fields.proofs.board_at.Goals as goal
 

@@ -1,7 +1,6 @@
 -- `fields::event_size` meets its contract: each test of the code is one of what the bytes of an event field say. Assumes nothing.
 use mathlib.Core.Path.{sym, ◌∙◌}
 use native.Mathlib.Omega.{arith}
-use borrow.Author.Rules.{rules}
 use Rattle.fields.specs.Field.{byte_at}
 use Rattle.fields.proofs.Tags.{tag_least, tag_most}
 use Rattle.fields.proofs.Event.{no_event_lem, event_stands}

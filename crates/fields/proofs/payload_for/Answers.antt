@@ -1,6 +1,5 @@
 -- `fields::payload_for` meets its contract: the code is the definition. Assumes nothing.
 use Rattle.fields.specs.Field.{payload_for}
-use borrow.Author.Rules.{rules}
 use Rattle.fields.proofs.payload_for.Goals as goal
 
 pub returns-then-tag-long : goal.returns-then-tag-long

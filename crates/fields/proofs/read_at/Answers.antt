@@ -1,11 +1,8 @@
 -- `fields::read_at` meets its contract: behind the end field a byte is one too many, and before it a field is read. Assumes nothing.
 use mathlib.Core.Path.{◌∙◌}
 use mathlib.Core.Bool.{true, false}
-use mathlib.Core.List.{[], ◌∷◌}
-use borrow.Author.Rules.{rules}
 use borrow.Author.Tests.{lt-ltb, le-ltb}
 use lib.ListN.{length}
-use types.Run.{miss}
 use Rattle.fields.proofs.Order.{before_end, behind_end_lem}
 use Rattle.fields.proofs.read_at.Goals as goal
 

@@ -1,7 +1,6 @@
 -- `fields::read_field` meets its contract: each test of the code is the next of document 01's order. Assumes nothing.
 use mathlib.Core.Path.{sym, ap, ◌∙◌}
 use native.Mathlib.Omega.{arith}
-use borrow.Author.Rules.{rules}
 use Rattle.fields.specs.Field.{byte_at, payload_for}
 use Rattle.fields.proofs.Order.{stops_short, tag_unknown, tag_misplaced, length_wrong, Headed, payload_short, payload_whole}
 use Rattle.fields.proofs.read_field.Goals as goal

@@ -1,5 +1,4 @@
 -- `fields::sizes_at` meets its contract: numbers of two bytes, one behind the other. Assumes nothing.
-use borrow.Author.Rules.{rules}
 use Rattle.fields.proofs.sizes_at.Goals as goal
 
 pub returns : goal.returns

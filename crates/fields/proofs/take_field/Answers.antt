@@ -3,7 +3,6 @@ use Prim.Native.Nat.{◌+◌}
 use mathlib.Core.Path.{refl, ap, ◌∙◌}
 use mathlib.Core.Bool.{true, false, not}
 use native.Mathlib.Omega.{arith}
-use borrow.Author.Rules.{rules}
 use borrow.Author.Tests.{eq-eqb, ne_eqb}
 use Rattle.fields.specs.Field.{byte_at, two_at}
 use Rattle.fields.proofs.Tags.{payload_least, sizes_payload, other_payload}

@@ -1,7 +1,6 @@
 -- `fields::two_at` meets its contract: a byte is below 256, so that two of them fit. Assumes nothing.
 use Prim.Native.Nat.{◌+◌}
 use native.Mathlib.Omega.{arith}
-use borrow.Author.Rules.{rules}
 use Rattle.fields.proofs.two_at.Goals as goal
 
 pub overflow_cast-result : goal.overflow_cast-result

@@ -2,7 +2,6 @@
 use Prim.Native.Nat.{ℕ}
 use mathlib.Core.Path.{◌≡◌, refl, sym, ap, ◌∙◌}
 use mathlib.Core.List.{List}
-use borrow.Author.Tests.{not-true, not-false}
 use lib.ListN.{length, replicate}
 use Rattle.rules.specs.declared.Answer.TheVariants.{Fresh}
 use Rattle.rules.specs.Size.{in_range}
@@ -14,7 +13,6 @@ use Rattle.tables.specs.Event.{written}
 use Rattle.fresh.specs.Fresh.{made_fresh}
 use Rattle.fresh.proofs.Exact.{exact_tells}
 use Rattle.fresh.proofs.Zero.{zero_tables, fresh-zero}
-use borrow.Author.Rules.{rules}
 use Rattle.fresh.proofs.fresh.Goals as goal
 
 -- a table that is cleared is 0 as often as it is long

@@ -1,5 +1,4 @@
 -- `fresh::has_shape` meets its contract, by those of its two tests. Assumes nothing.
-use borrow.Author.Rules.{rules}
 use Rattle.fresh.proofs.has_shape.Goals as goal
 
 pub returns : goal.returns

@@ -5,7 +5,6 @@ use native.Mathlib.Omega.{arith}
 use native.Mathlib.Nat.{mul-le-mul}
 use Rattle.rules.specs.Size.{links}
 use Rattle.fresh.specs.Fits.{is_exact}
-use borrow.Author.Rules.{rules}
 use Rattle.fresh.proofs.is_exact.Goals as goal
 
 -- a number of 16 bits times one that is at most another

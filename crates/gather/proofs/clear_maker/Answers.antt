@@ -1,13 +1,11 @@
 -- `gather::clear_maker` meets its contract. The loop's invariant: the places passed are done and the others as they were. Assumes nothing.
-use Prim.Native.Nat.{◌+◌, ◌-◌, ◌≤◌}
-use mathlib.Core.Path.{◌≡◌, refl, sym, ◌∙◌}
+use Prim.Native.Nat.{◌+◌}
+use mathlib.Core.Path.{refl, sym, ◌∙◌}
 use mathlib.Core.Bool.{Bool}
-use mathlib.Core.List.{◌++◌}
 use native.Mathlib.Omega.{arith}
 use lib.Dec.{eqb}
-use lib.ListN.{length, get_or, take, drop, length-set}
+use lib.ListN.{get_or, length-set}
 use borrow.Author.Rules.{rules}
-use Rattle.gather.specs.Raw.{unmade}
 use Rattle.gather.proofs.Made.{byte_low, fits-cleared, below_next, below_all}
 use Rattle.gather.proofs.clear_maker.Goals as goal
 use Rattle.gather.proofs.clear_maker.Goals.{At-loop-i}

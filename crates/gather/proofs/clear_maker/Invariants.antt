@@ -1,14 +1,9 @@
 -- The loop of `clear_maker`.
-use Prim.Native.Nat.{◌+◌, ◌-◌, ◌≤◌}
-use mathlib.Core.Path.{◌≡◌, refl, sym, ◌∙◌}
-use mathlib.Core.Bool.{Bool}
+use Prim.Native.Nat.{◌-◌, ◌≤◌}
+use mathlib.Core.Path.{◌≡◌}
 use mathlib.Core.List.{◌++◌}
-use native.Mathlib.Omega.{arith}
-use lib.Dec.{eqb}
-use lib.ListN.{length, get_or, take, drop, length-set}
-use borrow.Author.Rules.{rules}
+use lib.ListN.{length, take, drop}
 use Rattle.gather.specs.Raw.{unmade}
-use Rattle.gather.proofs.Made.{byte_low, fits-cleared, below_next, below_all}
 use Rattle.gather.proofs.clear_maker.Given as goal
 
 abbrev pub invariant-loop-i : goal.invariant-loop-i

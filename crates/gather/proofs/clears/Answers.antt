@@ -6,7 +6,6 @@ use native.Mathlib.Omega.{arith}
 use lib.ListN.{get_or}
 use mathlib.Core.Bool.{false}
 use Rattle.tables.specs.Bits.{marked}
-use borrow.Author.Rules.{rules}
 use Rattle.gather.proofs.Here.{onward_asks, entry_inside, entry_known}
 use Rattle.gather.proofs.Moves.{Onward, onward-answers, clears_on_lem}
 use Rattle.gather.proofs.clears.Goals as goal

@@ -2,7 +2,6 @@
 -- Assumes nothing.
 use Prim.Native.Nat.{ℕ, ◌+◌, ◌-◌, ◌*◌, ◌≤◌}
 use mathlib.Core.Path.{◌≡◌, refl, sym, ap, ◌∙◌}
-use mathlib.Core.Logic.{⊎_elim}
 use mathlib.Core.List.{List}
 use native.Mathlib.Omega.{arith}
 use lib.ListN.{length, get_or, drop}
@@ -33,7 +32,7 @@ loop-r-preserved c =
     let a : ℕ = get_or registers at.r 0 in
     let marked : c.if-a-ne0.held ≡ mark_record at.held a true =
     elim c.if-a-ne0.branch [
-      then-a-ne0 w ↦ w.held-is ∙ w.set_mark.ensures ∙ mark_place at.held a (w.wide.result - 1) true (omega arith) (omega arith)
+      | then-a-ne0 w ↦ w.held-is ∙ w.set_mark.ensures ∙ mark_place at.held a (w.wide.result - 1) true (omega arith) (omega arith)
       | else-a-ne0 w ↦ w.held-is ∙ sym (ap (λ (i : ℕ). mark_record at.held i true) w.if-a-ne0.false)
     ] in (
       omega arith,

@@ -1,18 +1,8 @@
 -- The loop of `held_by`.
-use Prim.Native.Nat.{ℕ, ◌+◌, ◌-◌, ◌*◌, ◌≤◌}
-use mathlib.Core.Path.{◌≡◌, refl, sym, ap, ◌∙◌}
-use mathlib.Core.Logic.{⊎_elim}
-use mathlib.Core.List.{List}
-use native.Mathlib.Omega.{arith}
-use lib.ListN.{length, get_or, drop}
-use lib.Seq.{drop-length}
-use borrow.Author.Rules.{rules}
-use mathlib.Core.Bool.{true}
-use Rattle.laws.proofs.Lists.{Each-at}
-use Rattle.tables.specs.Bits.{mark_record}
-use Rattle.tables.proofs.Packed.{mark_place}
+use Prim.Native.Nat.{◌-◌, ◌≤◌}
+use mathlib.Core.Path.{◌≡◌}
+use lib.ListN.{length, drop}
 use Rattle.gather.specs.Raw.{held_in}
-use Rattle.gather.proofs.Held.{length_record, held_next}
 use Rattle.gather.proofs.held_by.Given as goal
 
 abbrev pub invariant-loop-r : goal.invariant-loop-r

@@ -2,7 +2,6 @@
 use mathlib.Core.Path.{refl, sym, ap, ◌∙◌}
 use mathlib.Core.List.{[]}
 use native.Mathlib.Omega.{arith}
-use borrow.Author.Rules.{rules}
 use Rattle.rules.specs.declared.Answer.TheVariants.{Stepped}
 use Rattle.advance.proofs.Moved.{opening_moves}
 use Rattle.gather.proofs.Here.{onward_asks}

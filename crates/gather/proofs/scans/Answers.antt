@@ -4,7 +4,6 @@ use mathlib.Core.Path.{◌≡◌, sym, ap, ◌∙◌, subst}
 use mathlib.Core.List.{List}
 use native.Mathlib.Omega.{arith}
 use lib.ListN.{length, get_or, take, drop, set}
-use borrow.Author.Rules.{rules}
 use Rattle.rules.specs.Sound.{Each}
 use Rattle.laws.proofs.Lists.{Each-map}
 use Rattle.laws.proofs.Number.{bounds, block_end}

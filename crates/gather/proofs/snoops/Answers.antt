@@ -3,7 +3,6 @@ use Prim.Native.Nat.{ℕ}
 use mathlib.Core.Path.{ap, ◌∙◌}
 use native.Mathlib.Omega.{arith}
 use lib.ListN.{get_or, set}
-use borrow.Author.Rules.{rules}
 use Rattle.gather.proofs.Here.{position_known, onward_asks}
 use Rattle.gather.proofs.Moves.{onward-answers, snoops_on_lem}
 use Rattle.gather.proofs.snoops.Goals as goal

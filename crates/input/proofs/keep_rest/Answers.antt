@@ -1,10 +1,7 @@
 -- `input::keep_rest` meets its contract. The loop's invariant: so many bytes have been moved. Assumes nothing.
-use Prim.Native.Nat.{◌-◌, ◌≤◌}
-use mathlib.Core.Path.{◌≡◌, refl}
+use mathlib.Core.Path.{refl}
 use native.Mathlib.Omega.{arith}
-use Rattle.input.proofs.Moved.{Moving, moving_starts, moving_on, moving_ends}
-use Rattle.input.proofs.keep_rest.Reads as reads
-use Rattle.input.proofs.keep_rest.Lts as lts
+use Rattle.input.proofs.Moved.{moving_starts, moving_on, moving_ends}
 use Rattle.input.proofs.keep_rest.Goals as goal
 
 pub overflow_sub-size : goal.overflow_sub-size

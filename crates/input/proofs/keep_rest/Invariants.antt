@@ -1,10 +1,7 @@
 -- The loop of `keep_rest`.
 use Prim.Native.Nat.{◌-◌, ◌≤◌}
-use mathlib.Core.Path.{◌≡◌, refl}
-use native.Mathlib.Omega.{arith}
-use Rattle.input.proofs.Moved.{Moving, moving_starts, moving_on, moving_ends}
-use Rattle.input.proofs.keep_rest.Reads as reads
-use Rattle.input.proofs.keep_rest.Lts as lts
+use mathlib.Core.Path.{◌≡◌}
+use Rattle.input.proofs.Moved.{Moving}
 use Rattle.input.proofs.keep_rest.Given as goal
 
 abbrev pub invariant-loop-i : goal.invariant-loop-i

@@ -1,10 +1,7 @@
 -- `inspect::all_zero` meets its contract. The loop's invariant: the `or` of the numbers passed is 0 where each of them is. Assumes nothing.
-use Prim.Native.Nat.{◌≤◌, ◌-◌}
-use mathlib.Core.Path.{◌≡◌, refl}
+use mathlib.Core.Path.{refl}
 use native.Mathlib.Omega.{arith}
 use borrow.Author.Rules.{rules}
-use lib.Dec.{eqb}
-use lib.ListN.{length, take}
 use Rattle.clauses.specs.IsSound.{every, is_zero}
 use Rattle.inspect.proofs.Tested.{every_all, zero_more}
 use Rattle.inspect.proofs.all_zero.Goals as goal

@@ -1,12 +1,9 @@
 -- The loop of `all_zero`.
 use Prim.Native.Nat.{◌≤◌, ◌-◌}
-use mathlib.Core.Path.{◌≡◌, refl}
-use native.Mathlib.Omega.{arith}
-use borrow.Author.Rules.{rules}
+use mathlib.Core.Path.{◌≡◌}
 use lib.Dec.{eqb}
 use lib.ListN.{length, take}
 use Rattle.clauses.specs.IsSound.{every, is_zero}
-use Rattle.inspect.proofs.Tested.{every_all, zero_more}
 use Rattle.inspect.proofs.all_zero.Given as goal
 
 abbrev pub invariant-loop-i : goal.invariant-loop-i

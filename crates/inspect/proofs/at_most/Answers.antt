@@ -1,10 +1,9 @@
 -- `inspect::at_most` meets its contract. The loop's invariant: the numbers passed are tested. Assumes nothing.
-use Prim.Native.Nat.{ℕ, ◌≤◌, ◌-◌}
-use mathlib.Core.Path.{◌≡◌, refl}
+use Prim.Native.Nat.{ℕ}
+use mathlib.Core.Path.{refl}
 use native.Mathlib.Omega.{arith}
 use borrow.Author.Rules.{rules}
 use lib.Dec.{leb}
-use lib.ListN.{length, take}
 use Rattle.clauses.specs.IsSound.{every}
 use Rattle.inspect.proofs.Tested.{every_more, every_all}
 use Rattle.inspect.proofs.at_most.Goals as goal

@@ -1,12 +1,9 @@
 -- The loop of `at_most`.
-use Prim.Native.Nat.{ℕ, ◌≤◌, ◌-◌}
-use mathlib.Core.Path.{◌≡◌, refl}
-use native.Mathlib.Omega.{arith}
-use borrow.Author.Rules.{rules}
+use Prim.Native.Nat.{◌≤◌, ◌-◌}
+use mathlib.Core.Path.{◌≡◌}
 use lib.Dec.{leb}
 use lib.ListN.{length, take}
 use Rattle.clauses.specs.IsSound.{every}
-use Rattle.inspect.proofs.Tested.{every_more, every_all}
 use Rattle.inspect.proofs.at_most.Given as goal
 
 abbrev pub invariant-loop-i : goal.invariant-loop-i

@@ -1,9 +1,8 @@
 -- `inspect::counts_match` meets its contract. The loop's invariant: the counts of the records passed are tested. Each of the four numbers of a record is at
 -- most 8,208, so that their sum fits. Assumes nothing.
-use Prim.Native.Nat.{ℕ, suc, ◌+◌, ◌-◌, ◌≤◌}
+use Prim.Native.Nat.{ℕ, ◌+◌, ◌≤◌}
 use mathlib.Core.Path.{◌≡◌, refl, ap, ◌∙◌}
-use mathlib.Core.Bool.{Bool, ◌&&◌}
-use mathlib.Core.List.{List}
+use mathlib.Core.Bool.{◌&&◌}
 use native.Mathlib.Omega.{arith}
 use native.Mathlib.Numerals.{add-one}
 use borrow.Author.Rules.{rules}

@@ -1,18 +1,12 @@
 -- The loop of `counts_match`.
-use Prim.Native.Nat.{ℕ, suc, ◌+◌, ◌-◌, ◌≤◌}
-use mathlib.Core.Path.{◌≡◌, refl, ap, ◌∙◌}
-use mathlib.Core.Bool.{Bool, ◌&&◌}
+use Prim.Native.Nat.{ℕ, suc, ◌-◌, ◌≤◌}
+use mathlib.Core.Path.{◌≡◌}
+use mathlib.Core.Bool.{Bool}
 use mathlib.Core.List.{List}
-use native.Mathlib.Omega.{arith}
-use native.Mathlib.Numerals.{add-one}
-use borrow.Author.Rules.{rules}
 use lib.Dec.{eqb}
 use lib.ListN.{length, get_or}
 use Rattle.clauses.specs.IsSound.{below}
 use Rattle.clauses.specs.Tallied.{tally_of}
-use Rattle.clauses.specs.Inspected.{counts_match}
-use Rattle.inspect.proofs.Tested.{below_more}
-use Rattle.inspect.proofs.Most.{most_at}
 use Rattle.inspect.proofs.counts_match.Given as goal
 
 -- the count of one record

@@ -1,6 +1,6 @@
 -- `inspect::enter` meets its contract. The loop's invariant: the entries passed are noted. So each number seen is at most the bound before them and `by` for each
 -- of them, and there is room for one more. Assumes nothing.
-use Prim.Native.Nat.{ℕ, suc, ◌+◌, ◌*◌, ◌-◌, ◌≤◌}
+use Prim.Native.Nat.{ℕ, suc, ◌+◌, ◌*◌, ◌≤◌}
 use mathlib.Core.Path.{◌≡◌, refl, ap, ◌∙◌}
 use mathlib.Core.Bool.{true}
 use native.Mathlib.Omega.{arith}

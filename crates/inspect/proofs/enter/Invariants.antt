@@ -1,15 +1,10 @@
 -- The loop of `enter`.
-use Prim.Native.Nat.{ℕ, suc, ◌+◌, ◌*◌, ◌-◌, ◌≤◌}
-use mathlib.Core.Path.{◌≡◌, refl, ap, ◌∙◌}
+use Prim.Native.Nat.{ℕ, ◌*◌, ◌-◌, ◌≤◌}
+use mathlib.Core.Path.{◌≡◌}
 use mathlib.Core.Bool.{true}
-use native.Mathlib.Omega.{arith}
-use native.Mathlib.Nat.{mul-le-mul_right, suc-mul}
-use borrow.Author.Rules.{rules}
 use lib.ListN.{length}
 use Rattle.tables.specs.Lie.{entries}
 use Rattle.clauses.specs.Entered.{entered_all}
-use Rattle.inspect.proofs.Most.{Most, most_at}
-use Rattle.inspect.proofs.Noting.{entries_most, entered_next}
 use Rattle.inspect.proofs.enter.Given as goal
 
 abbrev pub invariant-loop-i : goal.invariant-loop-i

@@ -1,7 +1,6 @@
 -- `inspect::enter_logs` meets its contract. The loop's invariant: the logs passed are noted, and what stands past each of them is tested. Assumes nothing.
 use Prim.Native.Nat.{ℕ, ◌+◌, ◌*◌, ◌-◌, ◌≤◌, ◌<◌}
 use mathlib.Core.Path.{◌≡◌, ap, ◌∙◌}
-use mathlib.Core.Bool.{true}
 use native.Mathlib.Omega.{arith}
 use borrow.Author.Rules.{rules}
 use lib.ListN.{length, get_or, take, drop}
@@ -11,7 +10,7 @@ use Rattle.laws.proofs.Number.{bounds}
 use Rattle.laws.proofs.Lists.{Each-at}
 use Rattle.clauses.specs.IsSound.{every, is_zero}
 use Rattle.tables.proofs.Logs.{LogTables, length_part}
-use Rattle.inspect.proofs.Logs.{LogsEntered, logs_none, logs_more, logs_all, logs_most}
+use Rattle.inspect.proofs.Logs.{logs_none, logs_more, logs_all, logs_most}
 use Rattle.inspect.proofs.enter_logs.Goals as goal
 use Rattle.inspect.proofs.enter_logs.Goals.{After-wide-in-loop-w, Start}
 

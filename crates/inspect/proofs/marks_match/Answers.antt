@@ -1,10 +1,9 @@
 -- `inspect::marks_match` meets its contract. The loop's invariant: the marks of the words passed are tested. Assumes nothing.
-use Prim.Native.Nat.{ℕ, ◌+◌, ◌*◌, ◌/◌, ◌%◌, ◌-◌, ◌≤◌}
+use Prim.Native.Nat.{ℕ, ◌+◌, ◌*◌, ◌/◌, ◌%◌}
 use mathlib.Core.Path.{◌≡◌, refl, sym, ap, ◌∙◌}
 use mathlib.Core.Bool.{Bool, ◌&&◌}
 use native.Mathlib.Omega.{arith}
 use native.Mathlib.Nat.{div-add-mod'}
-use borrow.Author.Rules.{rules}
 use Rattle.clauses.specs.IsSound.{below}
 use Rattle.clauses.specs.Inspected.{marks_match}
 use Rattle.inspect.specs.Lent.{matches}

@@ -1,6 +1,5 @@
 -- `inspect::numbers_fit` meets its contract: what each call of `unused_off` and `at_most` ensures. Assumes nothing.
 use mathlib.Core.Bool.{◌&&◌}
-use borrow.Author.Rules.{rules}
 use Rattle.clauses.specs.Inspected.{numbers_fit}
 use Rattle.inspect.proofs.numbers_fit.Goals as goal
 

@@ -1,7 +1,6 @@
 -- `inspect::place_of` meets its contract. Assumes nothing.
 use mathlib.Core.Path.{sym, ◌∙◌}
 use native.Mathlib.Omega.{arith}
-use borrow.Author.Rules.{rules}
 use Rattle.clauses.proofs.Entered.{own_place, no_place}
 use Rattle.inspect.proofs.place_of.Goals as goal
 

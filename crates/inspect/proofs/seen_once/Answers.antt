@@ -1,8 +1,7 @@
 -- `inspect::seen_once` meets its contract. The loop's invariant: what was seen of the links passed is tested. Assumes nothing.
-use Prim.Native.Nat.{ℕ, ◌+◌, ◌-◌, ◌≤◌}
+use Prim.Native.Nat.{ℕ, ◌+◌}
 use mathlib.Core.Path.{◌≡◌, refl, ap, ◌∙◌}
 use native.Mathlib.Omega.{arith}
-use borrow.Author.Rules.{rules}
 use lib.ListN.{get_or}
 use Rattle.clauses.specs.IsSound.{below}
 use Rattle.inspect.specs.Lent.{is_once}

@@ -1,12 +1,9 @@
 -- The loop of `seen_once`.
-use Prim.Native.Nat.{ℕ, ◌+◌, ◌-◌, ◌≤◌}
-use mathlib.Core.Path.{◌≡◌, refl, ap, ◌∙◌}
-use native.Mathlib.Omega.{arith}
-use borrow.Author.Rules.{rules}
+use Prim.Native.Nat.{◌+◌, ◌-◌, ◌≤◌}
+use mathlib.Core.Path.{◌≡◌}
 use lib.ListN.{get_or}
 use Rattle.clauses.specs.IsSound.{below}
 use Rattle.inspect.specs.Lent.{is_once}
-use Rattle.inspect.proofs.Tested.{below_more}
 use Rattle.inspect.proofs.seen_once.Given as goal
 
 abbrev pub invariant-loop-i : goal.invariant-loop-i

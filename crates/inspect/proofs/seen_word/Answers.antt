@@ -1,14 +1,13 @@
 -- `inspect::seen_word` meets its contract. The loop's invariant: each half so far is the number of its links passed. Assumes nothing.
-use Prim.Native.Nat.{ℕ, ◌+◌, ◌-◌, ◌*◌, ◌%◌, ◌^◌, ◌≤◌}
+use Prim.Native.Nat.{ℕ, ◌+◌, ◌*◌, ◌%◌, ◌^◌}
 use mathlib.Core.Path.{◌≡◌, refl, ap, ◌∙◌}
 use mathlib.Core.Bool.{Bool, false}
-use mathlib.Core.List.{List, map}
+use mathlib.Core.List.{List}
 use mir.Val.{bool_byte}
 use lib.Bits.{bit_or}
 use native.Mathlib.Omega.{arith}
 use lib.ListN.{get_or, drop}
 use lib.Seq.{get_or-drop}
-use borrow.Author.Rules.{rules}
 use Rattle.tables.specs.Bits.{number}
 use Rattle.tables.proofs.Digits.{number-low}
 use Rattle.tables.proofs.Standing.{byte_joined, halves_joined}

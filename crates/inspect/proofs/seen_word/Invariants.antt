@@ -1,19 +1,11 @@
 -- The loop of `seen_word`.
-use Prim.Native.Nat.{ℕ, ◌+◌, ◌-◌, ◌*◌, ◌%◌, ◌^◌, ◌≤◌}
-use mathlib.Core.Path.{◌≡◌, refl, ap, ◌∙◌}
-use mathlib.Core.Bool.{Bool, false}
+use Prim.Native.Nat.{ℕ, ◌-◌, ◌≤◌}
+use mathlib.Core.Path.{◌≡◌}
+use mathlib.Core.Bool.{Bool}
 use mathlib.Core.List.{List, map}
-use mir.Val.{bool_byte}
-use lib.Bits.{bit_or}
-use native.Mathlib.Omega.{arith}
-use lib.ListN.{get_or, drop}
-use lib.Seq.{get_or-drop}
-use borrow.Author.Rules.{rules}
+use lib.ListN.{drop}
 use Rattle.tables.specs.Bits.{number}
-use Rattle.tables.proofs.Digits.{number-low}
-use Rattle.tables.proofs.Standing.{byte_joined, halves_joined}
 use Rattle.inspect.specs.Lent.{is_standing}
-use Rattle.inspect.proofs.Seen.{seen_bit}
 use Rattle.inspect.proofs.seen_word.Given as goal
 
 abbrev pub standing : List ℕ → ℕ → List Bool

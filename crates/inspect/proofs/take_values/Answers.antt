@@ -1,12 +1,12 @@
 -- `inspect::take_values` meets its contract. The loop's invariant: the values passed are tested, and are the last that is known of their links. Assumes nothing.
-use Prim.Native.Nat.{ℕ, ◌+◌, ◌-◌, ◌≤◌}
+use Prim.Native.Nat.{ℕ, ◌+◌}
 use mathlib.Core.Path.{◌≡◌, refl, sym, ap, ◌∙◌}
 use mathlib.Core.List.{List}
 use native.Mathlib.Omega.{arith}
 use native.Mathlib.Numerals.{add-one}
 use borrow.Author.Rules.{rules}
 use lib.Dec.{leb}
-use lib.ListN.{length, get_or, set, take}
+use lib.ListN.{length, get_or, set}
 use lib.Seq.{paste, paste-suc}
 use Rattle.clauses.specs.IsSound.{every}
 use Rattle.clauses.specs.Inspected.{valued}

@@ -1,16 +1,10 @@
 -- The loop of `take_values`.
-use Prim.Native.Nat.{ℕ, ◌+◌, ◌-◌, ◌≤◌}
-use mathlib.Core.Path.{◌≡◌, refl, sym, ap, ◌∙◌}
-use mathlib.Core.List.{List}
-use native.Mathlib.Omega.{arith}
-use native.Mathlib.Numerals.{add-one}
-use borrow.Author.Rules.{rules}
+use Prim.Native.Nat.{◌-◌, ◌≤◌}
+use mathlib.Core.Path.{◌≡◌}
 use lib.Dec.{leb}
-use lib.ListN.{length, get_or, set, take}
-use lib.Seq.{paste, paste-suc}
+use lib.ListN.{length, take}
+use lib.Seq.{paste}
 use Rattle.clauses.specs.IsSound.{every}
-use Rattle.clauses.specs.Inspected.{valued}
-use Rattle.inspect.proofs.Tested.{every_more, every_all}
 use Rattle.inspect.proofs.take_values.Given as goal
 
 abbrev pub invariant-loop-l : goal.invariant-loop-l

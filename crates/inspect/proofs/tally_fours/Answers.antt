@@ -1,6 +1,6 @@
 -- `inspect::tally_fours` meets its contract. The loop's invariant: the links passed are a multiple of four, and they are tallied. Assumes nothing.
-use Prim.Native.Nat.{◌+◌, ◌-◌, ◌%◌, ◌≤◌}
-use mathlib.Core.Path.{◌≡◌, refl}
+use Prim.Native.Nat.{◌+◌}
+use mathlib.Core.Path.{refl}
 use native.Mathlib.Omega.{arith}
 use borrow.Author.Rules.{rules}
 use lib.ListN.{get_or}

@@ -1,10 +1,7 @@
 -- The loop of `tally_fours`.
-use Prim.Native.Nat.{◌+◌, ◌-◌, ◌%◌, ◌≤◌}
-use mathlib.Core.Path.{◌≡◌, refl}
-use native.Mathlib.Omega.{arith}
-use borrow.Author.Rules.{rules}
-use lib.ListN.{get_or}
-use Rattle.inspect.proofs.Tallies.{Tallied, none_yet, still_low, one_more}
+use Prim.Native.Nat.{◌-◌, ◌%◌, ◌≤◌}
+use mathlib.Core.Path.{◌≡◌}
+use Rattle.inspect.proofs.Tallies.{Tallied}
 use Rattle.inspect.proofs.tally_fours.Given as goal
 
 abbrev pub invariant-loop-l : goal.invariant-loop-l

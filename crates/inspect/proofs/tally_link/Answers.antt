@@ -2,7 +2,6 @@
 use Prim.Native.Nat.{ℕ, ◌+◌}
 use mathlib.Core.Path.{ap}
 use native.Mathlib.Omega.{arith}
-use borrow.Author.Rules.{rules}
 use Rattle.clauses.specs.Tallied.{raised}
 use Rattle.inspect.proofs.Most.{most_at}
 use Rattle.inspect.proofs.tally_link.Goals as goal

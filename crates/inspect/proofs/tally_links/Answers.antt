@@ -1,12 +1,11 @@
 -- `inspect::tally_links` meets its contract. The loop's invariant: the links passed are tallied. Assumes nothing.
-use Prim.Native.Nat.{ℕ, ◌+◌, ◌-◌, ◌*◌, ◌%◌, ◌≤◌}
+use Prim.Native.Nat.{ℕ, ◌+◌, ◌*◌, ◌%◌}
 use mathlib.Core.Path.{◌≡◌, refl, ap, ◌∙◌}
 use native.Mathlib.Omega.{arith}
-use borrow.Author.Rules.{rules}
 use lib.ListN.{get_or, replicate}
 use Rattle.clauses.specs.Tallied.{tallied}
 use Rattle.inspect.proofs.Most.{most_more}
-use Rattle.inspect.proofs.Tallies.{Tallied, still_low, one_more}
+use Rattle.inspect.proofs.Tallies.{still_low, one_more}
 use Rattle.inspect.proofs.tally_links.Goals as goal
 
 pub loop-l-init : goal.loop-l-init

@@ -1,12 +1,6 @@
 -- The loop of `tally_links`.
-use Prim.Native.Nat.{ℕ, ◌+◌, ◌-◌, ◌*◌, ◌%◌, ◌≤◌}
-use mathlib.Core.Path.{◌≡◌, refl, ap, ◌∙◌}
-use native.Mathlib.Omega.{arith}
-use borrow.Author.Rules.{rules}
-use lib.ListN.{get_or, replicate}
-use Rattle.clauses.specs.Tallied.{tallied}
-use Rattle.inspect.proofs.Most.{most_more}
-use Rattle.inspect.proofs.Tallies.{Tallied, still_low, one_more}
+use Prim.Native.Nat.{◌-◌, ◌≤◌}
+use Rattle.inspect.proofs.Tallies.{Tallied}
 use Rattle.inspect.proofs.tally_links.Given as goal
 
 abbrev pub invariant-loop-l : goal.invariant-loop-l

@@ -1,18 +1,8 @@
 -- The loop of `word_matches`.
-use Prim.Native.Nat.{ℕ, ◌+◌, ◌*◌, ◌%◌, ◌-◌, ◌≤◌}
-use mathlib.Core.Path.{◌≡◌, refl, sym, ap, ◌∙◌}
-use mathlib.Core.Bool.{Bool, true, false, ◌&&◌}
-use native.Mathlib.Omega.{arith}
-use mir.Val.{bool_byte}
-use borrow.Author.Rules.{rules}
-use lib.Dec.{eqb, ltb}
-use lib.ListN.{get_or}
-use Rattle.rules.specs.View.{bit}
-use Rattle.tables.specs.Bits.{mark_at}
-use Rattle.tables.proofs.Words.{bit_at}
+use Prim.Native.Nat.{◌+◌, ◌*◌, ◌-◌, ◌≤◌}
+use mathlib.Core.Path.{◌≡◌}
 use Rattle.clauses.specs.IsSound.{below}
 use Rattle.inspect.specs.Lent.{matches}
-use Rattle.inspect.proofs.Tested.{below_more}
 use Rattle.inspect.proofs.word_matches.Given as goal
 
 abbrev pub invariant-loop-i : goal.invariant-loop-i

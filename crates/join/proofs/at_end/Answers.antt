@@ -1,5 +1,4 @@
 -- `join::at_end` meets its contract. Assumes nothing.
-use borrow.Author.Rules.{rules}
 use mathlib.Core.Path.{sym, ap, ◌∙◌}
 use Rattle.join.specs.Merge.{is_whole, ends_with}
 use Rattle.join.proofs.at_end.Goals as goal

@@ -1,7 +1,6 @@
 -- `join::begins` meets its contract. Assumes nothing.
 use mathlib.Core.Path.{◌∙◌}
 use Rattle.join.proofs.Reading.{begins_by, begins_missing}
-use borrow.Author.Rules.{rules}
 use Rattle.join.proofs.begins.Goals as goal
 
 pub returns-in-Sizes : goal.returns-in-Sizes

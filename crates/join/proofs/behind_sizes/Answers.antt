@@ -1,7 +1,6 @@
 -- `join::behind_sizes` meets its contract. Assumes nothing.
 use mathlib.Core.Path.{ap}
 use Rattle.fields.specs.declared.Read.{Read}
-use borrow.Author.Rules.{rules}
 use Rattle.join.proofs.behind_sizes.Goals as goal
 
 pub returns : goal.returns

@@ -1,17 +1,10 @@
 -- The loop of `check`.
-use borrow.Author.Rules.{rules}
-use native.Mathlib.Omega.{arith}
-use Prim.Native.Nat.{◌+◌, ◌-◌, ◌≤◌, ◌<◌}
-use mathlib.Core.Path.{◌≡◌, refl, sym, ap, ◌∙◌}
+use Prim.Native.Nat.{◌-◌, ◌≤◌}
+use mathlib.Core.Path.{◌≡◌}
 use mathlib.Core.Bool.{true}
-use native.Mathlib.Numerals.{add-one}
-use lib.ListN.{length, get_or, take, drop}
-use lib.Seq.{length-take-le}
-use Rattle.join.specs.Part.{part_told, parts_told}
-use Rattle.join.specs.Joined.{sum}
-use Rattle.join.specs.Merge.{seen_parts, start_of, end_of}
-use Rattle.join.proofs.Lengths.{all_lent, end_is, end_inside}
-use Rattle.join.proofs.Reading.{seen_refused, seen_whole, told_next, seen_all}
+use lib.ListN.{length, drop}
+use Rattle.join.specs.Part.{parts_told}
+use Rattle.join.specs.Merge.{seen_parts, start_of}
 use Rattle.join.proofs.check.Given as goal
 
 abbrev pub invariant-loop-i : goal.invariant-loop-i

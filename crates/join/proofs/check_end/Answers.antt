@@ -6,7 +6,6 @@ use lib.ListN.{length}
 use Rattle.rules.specs.declared.Refusal.TheVariants.{ExtraByte}
 use Rattle.join.specs.declared.Seen.TheVariants.{Whole, Refused}
 use Rattle.join.proofs.Reading.{end_by}
-use borrow.Author.Rules.{rules}
 use Rattle.join.proofs.check_end.Goals as goal
 
 pub returns-then-next-bytes : goal.returns-then-next-bytes

@@ -1,11 +1,10 @@
 -- `join::check_events` meets its contract. The loop's invariant: what is to be seen of the part is what is to be seen from the place on. Assumes nothing.
 use borrow.Author.Rules.{rules}
 use native.Mathlib.Omega.{arith}
-use Prim.Native.Nat.{ℕ, suc, ◌+◌, ◌-◌, ◌≤◌, ◌<◌}
+use Prim.Native.Nat.{ℕ, suc, ◌+◌, ◌-◌, ◌≤◌}
 use mathlib.Core.Path.{◌≡◌, sym, ap, ◌∙◌}
 use lib.ListN.{length}
-use Rattle.fields.specs.Field.{EventSized}
-use Rattle.join.specs.Part.{expected, events_told}
+use Rattle.join.specs.Part.{events_told}
 use Rattle.join.specs.Merge.{seen_from}
 use Rattle.join.proofs.Reading.{told_event, rises, told_end}
 use Rattle.join.proofs.check_events.Goals as goal

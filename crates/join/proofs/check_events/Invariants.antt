@@ -1,13 +1,10 @@
 -- The loop of `check_events`.
-use borrow.Author.Rules.{rules}
-use native.Mathlib.Omega.{arith}
 use Prim.Native.Nat.{ℕ, suc, ◌+◌, ◌-◌, ◌≤◌, ◌<◌}
-use mathlib.Core.Path.{◌≡◌, sym, ap, ◌∙◌}
+use mathlib.Core.Path.{◌≡◌}
 use lib.ListN.{length}
 use Rattle.fields.specs.Field.{EventSized}
 use Rattle.join.specs.Part.{expected, events_told}
 use Rattle.join.specs.Merge.{seen_from}
-use Rattle.join.proofs.Reading.{told_event, rises, told_end}
 use Rattle.join.proofs.check_events.Given as goal
 
 abbrev pub invariant-loop-size : goal.invariant-loop-size

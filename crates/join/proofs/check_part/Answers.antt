@@ -10,7 +10,6 @@ use Rattle.fields.proofs.Taken.{taken_at_lem}
 use Rattle.join.specs.Part.{between, events_told}
 use Rattle.join.specs.Merge.{seen_from, seen_part, at_first}
 use Rattle.join.proofs.Reading.{part_by, seen_part_lem}
-use borrow.Author.Rules.{rules}
 use Rattle.join.proofs.check_part.Goals as goal
 
 pub check_events-requires : goal.check_events-requires

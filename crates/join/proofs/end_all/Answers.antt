@@ -1,10 +1,7 @@
 -- `join::end_all` meets its contract. The loop's invariant: the parts so far have come to their end. Assumes nothing.
-use borrow.Author.Rules.{rules}
 use native.Mathlib.Omega.{arith}
-use Prim.Native.Nat.{ℕ, ◌-◌, ◌≤◌, ◌<◌}
 use mathlib.Core.Path.{◌≡◌, sym, ◌∙◌}
 use mathlib.Core.Bool.{true}
-use borrow.Author.Tests.{not-true, not-false}
 use lib.ListN.{get_or, take}
 use lib.Seq.{length-take-le}
 use Rattle.laws.proofs.Tests.{never}

@@ -1,15 +1,9 @@
 -- The loop of `end_all`.
-use borrow.Author.Rules.{rules}
-use native.Mathlib.Omega.{arith}
 use Prim.Native.Nat.{ℕ, ◌-◌, ◌≤◌, ◌<◌}
-use mathlib.Core.Path.{◌≡◌, sym, ◌∙◌}
+use mathlib.Core.Path.{◌≡◌}
 use mathlib.Core.Bool.{true}
-use borrow.Author.Tests.{not-true, not-false}
 use lib.ListN.{get_or, take}
-use lib.Seq.{length-take-le}
-use Rattle.laws.proofs.Tests.{never}
 use Rattle.join.specs.Merge.{ends_with}
-use Rattle.join.proofs.Lengths.{below_next}
 use Rattle.join.proofs.end_all.Given as goal
 
 abbrev pub invariant-loop-i : goal.invariant-loop-i

@@ -1,12 +1,10 @@
 -- `join::end_to_end` meets its contract. The loop's invariant: the lengths so far and what is left add up to the slice. Assumes nothing.
-use borrow.Author.Rules.{rules}
 use native.Mathlib.Omega.{arith}
 use native.Mathlib.Numerals.{add-one}
 use borrow.Author.Tests.{ne_eqb}
 use lib.Seq.{take_all}
-use Prim.Native.Nat.{suc, ◌+◌, ◌-◌, ◌≤◌}
-use mathlib.Core.Path.{◌≡◌}
-use lib.ListN.{length, take}
+use Prim.Native.Nat.{suc}
+use lib.ListN.{length}
 use Rattle.join.specs.Joined.{sum}
 use Rattle.join.proofs.Lengths.{sum_next, sum_most, none_lent, too_many, adds_up, left_over}
 use Rattle.join.proofs.end_to_end.Goals as goal

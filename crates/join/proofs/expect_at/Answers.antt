@@ -4,7 +4,6 @@ use mathlib.Core.Path.{◌≡◌}
 use lib.ListN.{get_or-eq_default}
 use Rattle.fields.specs.Field.{byte_at, end_tag}
 use Rattle.join.proofs.Reading.{expects_end, expects_next, expects_last}
-use borrow.Author.Rules.{rules}
 use Rattle.join.proofs.expect_at.Goals as goal
 use Rattle.join.proofs.expect_at.Goals.{Joined-place-bytes, then-place-bytes+else-bytes-place-eq127, else-place-bytes}
 

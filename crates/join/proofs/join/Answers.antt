@@ -11,7 +11,6 @@ use Rattle.join.specs.Joined.{end_to_end, joined_trace}
 use Rattle.join.specs.Merge.{Merges}
 use Rattle.join.proofs.Lengths.{Lent, all_lent, sum_most}
 use Rattle.join.proofs.Answer.{not-lent, end_first, not_merged, joined_size, too_short, written_out}
-use borrow.Author.Rules.{rules}
 use Rattle.join.proofs.join.Goals as goal
 use Rattle.join.proofs.join.Goals.{After-behind_sizes-opened, Else-not-end_to_end, Else-not-merged}
 

@@ -1,10 +1,9 @@
 -- `join::lay_out` meets its contract. The loop's invariant: the places and ends of the parts so far are filled in. Assumes nothing.
-use borrow.Author.Rules.{rules}
 use native.Mathlib.Omega.{arith}
 use native.Mathlib.Numerals.{add-one}
 use Rattle.fields.specs.declared.Read.{Read}
 use Rattle.join.specs.Joined.{sum}
-use Prim.Native.Nat.{ℕ, ◌+◌, ◌-◌, ◌≤◌, ◌<◌}
+use Prim.Native.Nat.{◌+◌, ◌≤◌, ◌<◌}
 use mathlib.Core.Path.{◌≡◌, refl, sym, ap}
 use lib.ListN.{length, get_or, length-set}
 use lib.Seq.{length-take-le}

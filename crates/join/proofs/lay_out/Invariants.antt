@@ -1,16 +1,9 @@
 -- The loop of `lay_out`.
-use borrow.Author.Rules.{rules}
-use native.Mathlib.Omega.{arith}
-use native.Mathlib.Numerals.{add-one}
-use Rattle.fields.specs.declared.Read.{Read}
-use Rattle.join.specs.Joined.{sum}
-use Prim.Native.Nat.{ℕ, ◌+◌, ◌-◌, ◌≤◌, ◌<◌}
-use mathlib.Core.Path.{◌≡◌, refl, sym, ap}
-use lib.ListN.{length, get_or, length-set}
-use lib.Seq.{length-take-le}
+use Prim.Native.Nat.{ℕ, ◌-◌, ◌≤◌, ◌<◌}
+use mathlib.Core.Path.{◌≡◌}
+use lib.ListN.{length, get_or}
 use Rattle.fields.specs.Field.{read_at}
 use Rattle.join.specs.Merge.{start_of, end_of, part_of, at_first}
-use Rattle.join.proofs.Lengths.{all_lent, end_is, end_inside, set_below}
 use Rattle.join.proofs.lay_out.Given as goal
 
 abbrev pub invariant-loop-i : goal.invariant-loop-i

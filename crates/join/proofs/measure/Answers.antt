@@ -1,15 +1,14 @@
 -- `join::measure` meets its contract. The loop's invariant: the merge has come to a step, and the fields of the events so far have the length that is summed up.
 -- Assumes nothing.
-use borrow.Author.Rules.{rules}
 use native.Mathlib.Omega.{arith}
-use Prim.Native.Nat.{ℕ, ◌+◌, ◌*◌, ◌-◌, ◌≤◌, ◌<◌}
-use mathlib.Core.Path.{◌≡◌, refl}
-use mathlib.Core.List.{List, [], ◌++◌}
+use Prim.Native.Nat.{◌+◌}
+use mathlib.Core.Path.{refl}
+use mathlib.Core.List.{[], ◌++◌}
 use Rattle.join.specs.Part.{between}
 use Rattle.join.specs.Merge.{part_of}
-use lib.ListN.{length, get_or}
+use lib.ListN.{get_or}
 use Rattle.join.proofs.Lengths.{Lent, all_lent}
-use Rattle.join.proofs.Going.{Going, going_start, within, Took, took, going_takes, text_grows, stuck, measured, get_d_zeros}
+use Rattle.join.proofs.Going.{going_start, within, Took, took, going_takes, text_grows, stuck, measured, get_d_zeros}
 use Rattle.join.proofs.measure.Goals as goal
 use Rattle.join.proofs.measure.Goals.{At-loop-i, Else-more-eq0, Start}
 

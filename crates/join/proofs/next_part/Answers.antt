@@ -1,7 +1,5 @@
 -- `join::next_part` meets its contract. The loop's invariant: in none of the parts so far does the event stand. Assumes nothing.
-use borrow.Author.Rules.{rules}
 use native.Mathlib.Omega.{arith}
-use Prim.Native.Nat.{ℕ, ◌-◌, ◌≤◌, ◌<◌}
 use mathlib.Core.Path.{refl, sym}
 use lib.ListN.{get_or}
 use lib.Seq.{length-take-le}

@@ -1,12 +1,6 @@
 -- The loop of `next_part`.
-use borrow.Author.Rules.{rules}
-use native.Mathlib.Omega.{arith}
 use Prim.Native.Nat.{ℕ, ◌-◌, ◌≤◌, ◌<◌}
-use mathlib.Core.Path.{refl, sym}
-use lib.ListN.{get_or}
-use lib.Seq.{length-take-le}
 use Rattle.join.specs.Merge.{EventHere}
-use Rattle.join.proofs.Lengths.{below_next}
 use Rattle.join.proofs.next_part.Given as goal
 
 abbrev pub invariant-loop-i : goal.invariant-loop-i

@@ -2,7 +2,6 @@
 use native.Mathlib.Omega.{arith}
 use mathlib.Core.Path.{◌∙◌}
 use Rattle.join.proofs.Reading.{number_short, number_there}
-use borrow.Author.Rules.{rules}
 use Rattle.join.proofs.number_at.Goals as goal
 
 pub returns-then-bytes-place : goal.returns-then-bytes-place

@@ -4,7 +4,6 @@ use Prim.Native.Nat.{suc, ◌+◌}
 use mathlib.Core.Path.{◌≡◌, refl}
 use lib.ListN.{length-set}
 use Rattle.join.specs.Joined.{end_field}
-use borrow.Author.Rules.{rules}
 use Rattle.join.proofs.put_end.Goals as goal
 
 pub bounds-out-at-2 : goal.bounds-out-at-2

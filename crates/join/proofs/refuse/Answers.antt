@@ -1,10 +1,8 @@
 -- `join::refuse` meets its contract. Assumes nothing.
 use mathlib.Core.Bool.{Bool, cond}
-use borrow.Author.Tests.{not-true, not-false}
 use Rattle.rules.specs.declared.Refusal.TheVariants.{WrongStep, SizesDiffer}
 use Rattle.join.specs.declared.Joined.TheVariants.{Refused}
 use Rattle.join.specs.Merge.{refused_for}
-use borrow.Author.Rules.{rules}
 use mathlib.Core.Path.{sym, ap, ◌∙◌}
 use Rattle.join.proofs.refuse.Goals as goal
 

@@ -1,6 +1,5 @@
 -- `join::sizes_of` meets its contract. Assumes nothing.
 use Rattle.join.proofs.Reading.{sizes_by, sizes_missing}
-use borrow.Author.Rules.{rules}
 use Rattle.join.proofs.sizes_of.Goals as goal
 
 pub returns-in-Sizes : goal.returns-in-Sizes

@@ -1,6 +1,5 @@
 -- `join::write_joined` meets its contract. The loop's invariant: the merge has come to a step, and the fields of the events so far are written behind the sizes
 -- field. Assumes nothing.
-use borrow.Author.Rules.{rules}
 use native.Mathlib.Omega.{arith}
 use Prim.Native.Nat.{ℕ, ◌+◌, ◌-◌, ◌≤◌}
 use mathlib.Core.Path.{◌≡◌, refl, sym, ap, ◌∙◌, subst}
@@ -13,7 +12,7 @@ use Rattle.join.specs.Part.{between}
 use Rattle.join.specs.Joined.{first_field, joined_trace}
 use Rattle.join.specs.Merge.{part_of}
 use Rattle.join.proofs.Lengths.{Lent, all_lent}
-use Rattle.join.proofs.Going.{Going, going_start, within, Took, found, took, going_takes, text_grows, stuck, get_d_zeros}
+use Rattle.join.proofs.Going.{going_start, within, Took, found, took, going_takes, text_grows, stuck, get_d_zeros}
 use Rattle.join.proofs.Writing.{field_in_part, joined_length_lem, first_field_lem, text_most, text_all, joined_is, told_same}
 use Rattle.join.proofs.write_joined.Goals as goal
 use Rattle.join.proofs.write_joined.Goals.{After-ends-2-1, At-loop-places, Else-more-eq0, Start}

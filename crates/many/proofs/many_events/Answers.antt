@@ -1,19 +1,11 @@
 -- Where the tests refuse nothing is done; where they do not the tables are those of a sound pool, and the events are done on them.
 use mathlib.Core.Path.{◌≡◌, refl, sym, ◌∙◌}
 use mathlib.Core.Bool.{true}
-use borrow.Author.Tests.{not-true, not-false}
 use Rattle.tables.specs.Tables.{Tables, lent}
 use Rattle.clauses.specs.Inspected.{inspected}
 use Rattle.fresh.specs.Fits.{fits}
 use Rattle.pool.proofs.Checked.{fits_tells, checked_known}
 use Rattle.many.proofs.Checked.{wrong_shape, not_sound, known_many}
-use borrow.Author.Rules.{rules}
-use Rattle.many.proofs.many_events.Reads as reads
-use Rattle.many.proofs.many_events.Lts as lts
-use Rattle.inspect.proofs.inspect.Reads as inspect-reads
-use Rattle.many.proofs.rest_of.Reads as rest-of-reads
-use Rattle.fresh.proofs.has_shape.Reads as has-shape-reads
-use Rattle.trace.proofs.run_events.Reads as run-events-reads
 use Rattle.many.proofs.many_events.Goals as goal
 use Rattle.many.proofs.many_events.Goals.{After-has_shape, After-inspect, Else-not-has_shape, Else-not-inspect, Start}
 

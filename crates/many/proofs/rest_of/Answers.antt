@@ -1,11 +1,5 @@
 -- What stands behind the events, by the field that was read there.
-use mathlib.Core.List.{[], ◌∷◌}
-use types.Run.{miss}
 use Rattle.many.proofs.Checked.{rest_none, rest_refused, rest_other}
-use borrow.Author.Rules.{rules}
-use Rattle.many.proofs.rest_of.Reads as reads
-use Rattle.many.proofs.rest_of.Lts as lts
-use Rattle.fields.proofs.read_at.Reads as read-at-reads
 use Rattle.many.proofs.rest_of.Goals as goal
 
 pub returns-then-place-bytes : goal.returns-then-place-bytes

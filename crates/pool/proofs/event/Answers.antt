@@ -1,8 +1,6 @@
 -- Where the tests refuse nothing is done; where they do not the tables are those of a sound pool, and the event on them is the event of the rules.
 use mathlib.Core.Path.{◌≡◌, sym, ◌∙◌, refl}
 use mathlib.Core.Bool.{true}
-use borrow.Author.Rules.{rules}
-use borrow.Author.Tests.{not-true, not-false}
 use Rattle.tables.specs.Tables.{Tables, lent}
 use Rattle.clauses.specs.Inspected.{inspected}
 use Rattle.fresh.specs.Fits.{fits}

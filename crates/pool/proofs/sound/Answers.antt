@@ -1,8 +1,6 @@
 -- The check as it goes is the definition's test, where the tables fit.
 use mathlib.Core.Path.{◌≡◌, sym, ◌∙◌}
 use mathlib.Core.Bool.{true}
-use borrow.Author.Rules.{rules}
-use borrow.Author.Tests.{not-true, not-false}
 use Rattle.tables.specs.Tables.{Tables, lent}
 use Rattle.fresh.specs.Fits.{fits}
 use Rattle.pool.proofs.Checked.{fits_tells, sound_false, sound_checked}

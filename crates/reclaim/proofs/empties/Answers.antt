@@ -1,15 +1,13 @@
 -- `reclaim::empties` meets its contract. The loop's invariant: in every pool in whose tables those lent lie, the tables are those after the unchanged ones of the
 -- links passed are emptied. Assumes nothing.
-use Prim.Native.Nat.{ℕ, ◌-◌, ◌≤◌}
+use Prim.Native.Nat.{ℕ}
 use mathlib.Core.Path.{◌≡◌, refl, sym, ap, ◌∙◌, subst}
 use mathlib.Core.Bool.{not}
-use mathlib.Core.List.{List}
 use native.Mathlib.Omega.{arith}
-use borrow.Author.Rules.{rules}
-use lib.ListN.{length, set, length-set}
+use lib.ListN.{set, length-set}
 use Rattle.rules.specs.Size.{link_number}
 use Rattle.rules.specs.Collect.{is_unchanged, emptied_from, empties}
-use Rattle.tables.specs.Tables.{Tables, put_counts, put_candidates, put_values, put_changed}
+use Rattle.tables.specs.Tables.{Tables}
 use Rattle.laws.proofs.Number.{link_inside}
 use Rattle.tables.specs.Bits.{word_count, mark_at}
 use Rattle.tables.proofs.RoundTrip.{known_back}

@@ -1,20 +1,11 @@
 -- The loop of `empties`.
 use Prim.Native.Nat.{ℕ, ◌-◌, ◌≤◌}
-use mathlib.Core.Path.{◌≡◌, refl, sym, ap, ◌∙◌, subst}
-use mathlib.Core.Bool.{not}
+use mathlib.Core.Path.{◌≡◌}
 use mathlib.Core.List.{List}
-use native.Mathlib.Omega.{arith}
-use borrow.Author.Rules.{rules}
-use lib.ListN.{length, set, length-set}
-use Rattle.rules.specs.Size.{link_number}
-use Rattle.rules.specs.Collect.{is_unchanged, emptied_from, empties}
+use lib.ListN.{length}
+use Rattle.rules.specs.Collect.{is_unchanged, emptied_from}
 use Rattle.tables.specs.Tables.{Tables, put_counts, put_candidates, put_values, put_changed}
-use Rattle.laws.proofs.Number.{link_inside}
-use Rattle.tables.specs.Bits.{word_count, mark_at}
-use Rattle.tables.proofs.RoundTrip.{known_back}
-use Rattle.tables.proofs.Stand.{changed_stands}
 use Rattle.reclaim.specs.Lent.{InPool, Leaves}
-use Rattle.reclaim.proofs.Emptied.{emptied_tables, emptied_first, emptied_next, emptied-over, Fit, value_low, value-fits}
 use Rattle.reclaim.proofs.empties.Given as goal
 
 -- tables of which these four are at hand

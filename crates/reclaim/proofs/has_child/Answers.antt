@@ -1,11 +1,9 @@
 -- `reclaim::has_child` meets its contract. The loop's invariant: no link passed is unchanged and holds a record. Assumes nothing.
-use Prim.Native.Nat.{ℕ, ◌+◌, ◌-◌, ◌≤◌, ◌<◌}
+use Prim.Native.Nat.{ℕ, ◌+◌, ◌<◌}
 use mathlib.Core.Path.{◌≡◌, sym, ap, ◌∙◌}
 use mathlib.Core.Bool.{Bool, false, not, ◌&&◌, and-false}
-use mathlib.Core.List.{List}
 use native.Mathlib.Omega.{arith}
 use borrow.Author.Count.{below_more}
-use borrow.Author.Rules.{rules}
 use borrow.Author.Tests.{ne_eqb}
 use lib.ListN.{get_or}
 use Rattle.rules.specs.Size.{links, link_number}

@@ -1,18 +1,11 @@
 -- The loop of `has_child`.
 use Prim.Native.Nat.{ℕ, ◌+◌, ◌-◌, ◌≤◌, ◌<◌}
-use mathlib.Core.Path.{◌≡◌, sym, ap, ◌∙◌}
-use mathlib.Core.Bool.{Bool, false, not, ◌&&◌, and-false}
+use mathlib.Core.Path.{◌≡◌}
+use mathlib.Core.Bool.{Bool, false, not, ◌&&◌}
 use mathlib.Core.List.{List}
-use native.Mathlib.Omega.{arith}
-use borrow.Author.Count.{below_more}
-use borrow.Author.Rules.{rules}
-use borrow.Author.Tests.{ne_eqb}
 use lib.ListN.{get_or}
-use Rattle.rules.specs.Size.{links, link_number}
-use Rattle.laws.proofs.Number.{bounds, links_most}
-use Rattle.tables.specs.Bits.{digits, mark_at}
+use Rattle.tables.specs.Bits.{digits}
 use Rattle.tables.specs.Lie.{is_on}
-use Rattle.reclaim.proofs.Found.{link_from, links_end, link_holds, links_hold}
 use Rattle.reclaim.proofs.has_child.Given as goal
 
 -- a link is unchanged and holds a record, by the word of the marks and by where the record's links begin

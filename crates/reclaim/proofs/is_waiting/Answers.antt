@@ -1,7 +1,6 @@
 -- `reclaim::is_waiting` meets its contract: the test in the code is the definition's, asked in another order. Assumes nothing.
 use mathlib.Core.Path.{◌≡◌, refl, ◌∙◌}
 use mathlib.Core.Bool.{Bool, true, false, not, ◌&&◌}
-use borrow.Author.Rules.{rules}
 use lib.Dec.{eqb}
 use lib.ListN.{get_or}
 use Rattle.reclaim.specs.Raw.{waits}

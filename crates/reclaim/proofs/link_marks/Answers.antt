@@ -2,7 +2,6 @@
 use Prim.Native.Nat.{ℕ, ◌+◌}
 use mathlib.Core.Path.{◌≡◌, ap, ◌∙◌}
 use native.Mathlib.Omega.{arith}
-use borrow.Author.Rules.{rules}
 use Rattle.rules.specs.Size.{link_number}
 use Rattle.tables.specs.Bits.{mark_at}
 use Rattle.laws.proofs.Number.{bounds, links_most}

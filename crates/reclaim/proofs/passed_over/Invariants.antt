@@ -1,15 +1,9 @@
 -- The loop of `passed_over`.
 use Prim.Native.Nat.{ℕ, ◌+◌, ◌-◌, ◌*◌, ◌≤◌, ◌<◌}
-use mathlib.Core.Path.{◌≡◌, ap, ◌∙◌}
+use mathlib.Core.Path.{◌≡◌}
 use mathlib.Core.Bool.{false}
-use mathlib.Core.Logic.{⊎_elim}
-use native.Mathlib.Omega.{arith}
-use native.Mathlib.Nat.{mod-lt, zero-lt-suc}
-use borrow.Author.Rules.{rules}
 use lib.ListN.{length}
-use Rattle.laws.proofs.Tests.{below_or_not}
 use Rattle.reclaim.specs.Raw.{may_wait}
-use Rattle.reclaim.proofs.Idle.{word_idle}
 use Rattle.reclaim.proofs.passed_over.Given as goal
 
 abbrev pub invariant-loop-word : goal.invariant-loop-word

@@ -1,13 +1,10 @@
 -- `reclaim::reclaimed` meets its contract. The outer loop's invariant: every record passed fails. The inner loop's: the changed mark of every link passed is off. What
 -- the tests say of each record says what the search of the rules finds (Found). Assumes nothing.
-use Prim.Native.Nat.{ℕ, ◌+◌, ◌-◌, ◌≤◌, ◌<◌}
+use Prim.Native.Nat.{◌+◌, ◌-◌, ◌≤◌, ◌<◌}
 use mathlib.Core.Path.{◌≡◌, sym, ap, ◌∙◌}
 use mathlib.Core.Logic.{inl, inr, ⊎_elim}
-use mathlib.Core.Bool.{false}
 use native.Mathlib.Omega.{arith}
 use borrow.Author.Count.{below_more}
-use borrow.Author.Rules.{rules}
-use borrow.Author.Tests.{not-true, not-false}
 use Rattle.rules.specs.declared.RecordNumber.{RecordNumber}
 use Rattle.rules.specs.Size.{link_number}
 use Rattle.tables.specs.Tables.{Tables}
@@ -18,7 +15,7 @@ use Rattle.laws.proofs.Tests.{below_or_not}
 use Rattle.reclaim.specs.Lent.{reclaims_on}
 use Rattle.reclaim.specs.Raw.{waits}
 use Rattle.reclaim.proofs.Idle.{idle_waits}
-use Rattle.reclaim.proofs.Found.{search_finds, search_finds_none, Fails, record_fails, record_passes, record_sits}
+use Rattle.reclaim.proofs.Found.{search_finds, search_finds_none, record_fails, record_passes, record_sits}
 use Rattle.reclaim.proofs.reclaimed.Goals as goal
 use Rattle.reclaim.proofs.reclaimed.Goals.{After-has_bit, After-is_waiting, At-loop-f, At-records, Start}
 

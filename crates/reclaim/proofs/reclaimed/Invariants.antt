@@ -1,23 +1,11 @@
 -- The loop of `reclaimed`.
 use Prim.Native.Nat.{ℕ, ◌+◌, ◌-◌, ◌≤◌, ◌<◌}
-use mathlib.Core.Path.{◌≡◌, sym, ap, ◌∙◌}
-use mathlib.Core.Logic.{inl, inr, ⊎_elim}
+use mathlib.Core.Path.{◌≡◌}
 use mathlib.Core.Bool.{false}
-use native.Mathlib.Omega.{arith}
-use borrow.Author.Count.{below_more}
-use borrow.Author.Rules.{rules}
-use borrow.Author.Tests.{not-true, not-false}
-use Rattle.rules.specs.declared.RecordNumber.{RecordNumber}
 use Rattle.rules.specs.Size.{link_number}
-use Rattle.tables.specs.Tables.{Tables}
 use Rattle.tables.specs.Bits.{mark_at}
 use Rattle.tables.specs.Lie.{record_number}
-use Rattle.laws.proofs.Number.{bounds}
-use Rattle.laws.proofs.Tests.{below_or_not}
-use Rattle.reclaim.specs.Lent.{reclaims_on}
-use Rattle.reclaim.specs.Raw.{waits}
-use Rattle.reclaim.proofs.Idle.{idle_waits}
-use Rattle.reclaim.proofs.Found.{search_finds, search_finds_none, Fails, record_fails, record_passes, record_sits}
+use Rattle.reclaim.proofs.Found.{Fails}
 use Rattle.reclaim.proofs.reclaimed.Given as goal
 
 abbrev pub invariant-loop-f : goal.invariant-loop-f

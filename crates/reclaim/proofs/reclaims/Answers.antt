@@ -3,8 +3,6 @@
 use mathlib.Core.Path.{refl, sym, ap, ◌∙◌}
 use mathlib.Core.List.{[]}
 use native.Mathlib.Omega.{arith}
-use borrow.Author.Rules.{rules}
-use borrow.Author.Tests.{not-true, not-false}
 use Rattle.rules.specs.declared.Answer.TheVariants.{Stepped}
 use Rattle.laws.proofs.Number.{bounds}
 use Rattle.tables.specs.Bits.{word_count}

@@ -1,10 +1,7 @@
 -- `reclaim::unchanged` meets its contract. The loop's invariant: the changed mark of every link passed is off. Assumes nothing.
-use Prim.Native.Nat.{ℕ, ◌-◌, ◌≤◌, ◌<◌}
 use mathlib.Core.Path.{◌≡◌, sym, ap, ◌∙◌}
-use mathlib.Core.Bool.{false}
 use native.Mathlib.Omega.{arith}
 use borrow.Author.Count.{below_more}
-use borrow.Author.Rules.{rules}
 use Rattle.rules.specs.Size.{link_number}
 use Rattle.tables.specs.Bits.{mark_at}
 use Rattle.reclaim.proofs.Found.{links-unchanged, link_changed}

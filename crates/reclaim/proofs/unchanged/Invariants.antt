@@ -1,13 +1,9 @@
 -- The loop of `unchanged`.
 use Prim.Native.Nat.{ℕ, ◌-◌, ◌≤◌, ◌<◌}
-use mathlib.Core.Path.{◌≡◌, sym, ap, ◌∙◌}
+use mathlib.Core.Path.{◌≡◌}
 use mathlib.Core.Bool.{false}
-use native.Mathlib.Omega.{arith}
-use borrow.Author.Count.{below_more}
-use borrow.Author.Rules.{rules}
 use Rattle.rules.specs.Size.{link_number}
 use Rattle.tables.specs.Bits.{mark_at}
-use Rattle.reclaim.proofs.Found.{links-unchanged, link_changed}
 use Rattle.reclaim.proofs.unchanged.Given as goal
 
 abbrev pub invariant-loop-f : goal.invariant-loop-f

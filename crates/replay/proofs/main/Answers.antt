@@ -1,6 +1,5 @@
 -- `replay::main` does nothing undefined, and ends. A turn needs room in its buffers, which is known from the bytes of a part, and leaves fewer than 13 of them.
-use Prim.Native.Nat.{ℕ, ◌+◌, ◌*◌, ◌≤◌, ◌<◌}
-use mathlib.Core.Path.{◌≡◌}
+use Prim.Native.Nat.{◌+◌, ◌≤◌, ◌<◌}
 use native.Mathlib.Omega.{arith}
 use lib.ListN.{length, take}
 use Rattle.parts.specs.Arrays.{aside}

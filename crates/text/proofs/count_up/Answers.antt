@@ -5,7 +5,6 @@ use mathlib.Core.List.{[], ◌∷◌, ◌++◌}
 use native.Mathlib.Omega.{arith}
 use lib.ListN.{length, get_or, take, set, length-append, length-set}
 use lib.Seq.{take-suc, take-suc-set}
-use borrow.Author.Rules.{rules}
 use Rattle.text.specs.Text.{decimal}
 use Rattle.text.proofs.Digits.{decimal_some, decimal_most, decimal_next}
 use Rattle.text.proofs.Written.{written_start}

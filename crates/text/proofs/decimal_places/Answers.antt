@@ -1,10 +1,8 @@
 -- `text::decimal_places` meets its contract. The loop's invariant: the power of ten has as many zeros as places were counted behind the first, and the number has at
 -- least so many places. The power is compared with a tenth of the number, so that it stays a number of 64 bits. Assumes nothing.
-use Prim.Native.Nat.{ℕ, suc, ◌-◌, ◌^◌, ◌≤◌}
-use mathlib.Core.Path.{◌≡◌, refl}
+use Prim.Native.Nat.{suc}
+use mathlib.Core.Path.{refl}
 use native.Mathlib.Omega.{arith}
-use lib.ListN.{length}
-use Rattle.text.specs.Text.{decimal}
 use Rattle.text.proofs.Digits.{decimal_most, decimal_least, decimal_some, power_some}
 use Rattle.text.proofs.decimal_places.Goals as goal
 

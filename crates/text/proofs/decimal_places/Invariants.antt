@@ -1,10 +1,8 @@
 -- The loop of `decimal_places`.
 use Prim.Native.Nat.{ℕ, suc, ◌-◌, ◌^◌, ◌≤◌}
-use mathlib.Core.Path.{◌≡◌, refl}
-use native.Mathlib.Omega.{arith}
+use mathlib.Core.Path.{◌≡◌}
 use lib.ListN.{length}
 use Rattle.text.specs.Text.{decimal}
-use Rattle.text.proofs.Digits.{decimal_most, decimal_least, decimal_some, power_some}
 use Rattle.text.proofs.decimal_places.Given as goal
 
 abbrev pub invariant-loop-power : goal.invariant-loop-power

@@ -1,11 +1,9 @@
 -- `text::put_decimal` meets its contract. The loop's invariant: the digits of what is left, written from `at` up to `i`, complete the text. Assumes nothing.
-use Prim.Native.Nat.{◌+◌, ◌/◌, ◌%◌, ◌≤◌}
-use mathlib.Core.Path.{◌≡◌, refl, sym}
+use Prim.Native.Nat.{◌+◌, ◌/◌, ◌%◌}
+use mathlib.Core.Path.{refl, sym}
 use native.Mathlib.Omega.{arith}
-use lib.ListN.{length, length-set}
-use lib.Seq.{sets}
-use borrow.Author.Rules.{rules}
-use Rattle.text.specs.Text.{decimal, Written}
+use lib.ListN.{length-set}
+use Rattle.text.specs.Text.{decimal}
 use Rattle.text.proofs.Digits.{decimal_one, decimal-more, length_more, decimal_most}
 use Rattle.text.proofs.Written.{written_last}
 use Rattle.text.proofs.put_decimal.Goals as goal

@@ -1,13 +1,9 @@
 -- The loop of `put_decimal`.
-use Prim.Native.Nat.{◌+◌, ◌/◌, ◌%◌, ◌≤◌}
-use mathlib.Core.Path.{◌≡◌, refl, sym}
-use native.Mathlib.Omega.{arith}
-use lib.ListN.{length, length-set}
+use Prim.Native.Nat.{◌≤◌}
+use mathlib.Core.Path.{◌≡◌}
+use lib.ListN.{length}
 use lib.Seq.{sets}
-use borrow.Author.Rules.{rules}
 use Rattle.text.specs.Text.{decimal, Written}
-use Rattle.text.proofs.Digits.{decimal_one, decimal-more, length_more, decimal_most}
-use Rattle.text.proofs.Written.{written_last}
 use Rattle.text.proofs.put_decimal.Given as goal
 
 abbrev pub invariant-loop-left : goal.invariant-loop-left

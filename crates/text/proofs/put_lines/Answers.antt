@@ -1,12 +1,11 @@
 -- `text::put_lines` meets its contract. The loop's invariant: the lines of the events that are left, written from `at` on, complete the text; a line is given 24
 -- bytes, 12 for each number of `answers`; and the digits are those of the last step. Assumes nothing.
-use Prim.Native.Nat.{◌+◌, ◌-◌, ◌*◌, ◌≤◌, ◌<◌}
-use mathlib.Core.Path.{◌≡◌, refl, sym, ap, ◌∙◌}
+use Prim.Native.Nat.{◌+◌, ◌<◌}
+use mathlib.Core.Path.{refl, sym, ap, ◌∙◌}
 use native.Mathlib.Omega.{arith}
-use lib.ListN.{length, get_or, drop}
-use lib.Seq.{sets, length-take-le}
-use borrow.Author.Rules.{rules}
-use Rattle.text.specs.Text.{decimal, line_text, lines_text, Written, StartsWith}
+use lib.ListN.{length, get_or}
+use lib.Seq.{length-take-le}
+use Rattle.text.specs.Text.{line_text, Written}
 use Rattle.text.proofs.Digits.{decimal_some, decimal_most}
 use Rattle.text.proofs.Lines.{line_most, lines_next, lines_all}
 use Rattle.text.proofs.Written.{written_rest, written_same, written_start}

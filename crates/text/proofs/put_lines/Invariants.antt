@@ -1,14 +1,9 @@
 -- The loop of `put_lines`.
-use Prim.Native.Nat.{◌+◌, ◌-◌, ◌*◌, ◌≤◌, ◌<◌}
-use mathlib.Core.Path.{◌≡◌, refl, sym, ap, ◌∙◌}
-use native.Mathlib.Omega.{arith}
-use lib.ListN.{length, get_or, drop}
-use lib.Seq.{sets, length-take-le}
-use borrow.Author.Rules.{rules}
-use Rattle.text.specs.Text.{decimal, line_text, lines_text, Written, StartsWith}
-use Rattle.text.proofs.Digits.{decimal_some, decimal_most}
-use Rattle.text.proofs.Lines.{line_most, lines_next, lines_all}
-use Rattle.text.proofs.Written.{written_rest, written_same, written_start}
+use Prim.Native.Nat.{◌+◌, ◌-◌, ◌*◌, ◌≤◌}
+use mathlib.Core.Path.{◌≡◌}
+use lib.ListN.{length, drop}
+use lib.Seq.{sets}
+use Rattle.text.specs.Text.{decimal, lines_text, Written, StartsWith}
 use Rattle.text.proofs.put_lines.Given as goal
 
 abbrev pub invariant-loop-i : goal.invariant-loop-i

@@ -1,7 +1,6 @@
 -- `text::put_refused` meets its contract: the word and the two numbers are written one behind the other. Assumes nothing.
 use native.Mathlib.Omega.{arith}
 use lib.ListN.{length-set}
-use borrow.Author.Rules.{rules}
 use Rattle.text.specs.Text.{refused_word, refused_text}
 use Rattle.text.proofs.Lines.{last_line_lem}
 use Rattle.text.proofs.put_refused.Goals as goal

@@ -2,7 +2,6 @@
 use Prim.Native.Nat.{◌+◌, ◌≤◌}
 use native.Mathlib.Omega.{arith}
 use lib.ListN.{length-set}
-use borrow.Author.Rules.{rules}
 use Rattle.text.specs.Text.{space, newline, two_text}
 use Rattle.text.proofs.Digits.{decimal_most}
 use Rattle.text.proofs.Written.{written_text, written_both, written_same}

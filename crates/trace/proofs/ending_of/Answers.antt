@@ -1,8 +1,5 @@
 -- `trace::ending_of` meets its contract, by each case of how a trace stands. Assumes nothing.
 use mathlib.Core.Path.{refl}
-use borrow.Author.Rules.{rules}
-use Rattle.trace.proofs.ending_of.Reads as reads
-use Rattle.trace.proofs.ending_of.Lts as lts
 use Rattle.trace.proofs.ending_of.Goals as goal
 
 pub returns-in-Waits : goal.returns-in-Waits

@@ -1,18 +1,9 @@
 -- `trace::replay_sized` meets its contract: `fresh` leaves a sound pool where it does not refuse, the events are done on it, and what stands behind them says how
 -- the trace ends. Assumes nothing.
 use mathlib.Core.Path.{◌∙◌}
-use mathlib.Core.List.{[], ◌∷◌}
-use types.Run.{miss}
 use Rattle.tables.specs.Tables.{Tables, lent}
 use Rattle.tables.specs.Event.{Called}
 use Rattle.trace.proofs.Sized.{fresh-refused, Started, fresh_starts, started_known, sized-ends}
-use borrow.Author.Rules.{rules}
-use Rattle.trace.proofs.replay_sized.Reads as reads
-use Rattle.trace.proofs.replay_sized.Lts as lts
-use Rattle.fresh.proofs.fresh.Reads as fresh-reads
-use Rattle.trace.proofs.ending_of.Reads as ending-of-reads
-use Rattle.trace.proofs.run_events.Reads as run-events-reads
-use Rattle.trace.proofs.stand_behind.Reads as stand-behind-reads
 use Rattle.trace.proofs.replay_sized.Goals as goal
 use Rattle.trace.proofs.replay_sized.Goals.{After-fresh-made, In_default, Start}
 

@@ -1,14 +1,7 @@
 -- `trace::replay_trace` meets its contract: an accepted sizes field goes to `replay_sized`, and anything else is refused with no table changed. Assumes nothing.
 use mathlib.Core.Path.{◌∙◌}
-use mathlib.Core.List.{[], ◌∷◌}
-use types.Run.{miss}
 use Rattle.tables.specs.Tables.{Tables, lent}
 use Rattle.trace.proofs.Whole.{first_range, traced-sized, traced-refused, first_only}
-use borrow.Author.Rules.{rules}
-use Rattle.trace.proofs.replay_trace.Reads as reads
-use Rattle.trace.proofs.replay_trace.Lts as lts
-use Rattle.fields.proofs.read_at.Reads as read-at-reads
-use Rattle.trace.proofs.replay_sized.Reads as replay-sized-reads
 use Rattle.trace.proofs.replay_trace.Goals as goal
 use Rattle.trace.proofs.replay_trace.Goals.{After-read_at-first, Start}
 

@@ -1,26 +1,13 @@
 -- `trace::run_events` meets its contract: a turn does the event that stands at the place, and the last one finds that none does. Assumes nothing.
-use Prim.Native.Nat.{ℕ, ◌+◌, ◌-◌}
+use Prim.Native.Nat.{◌+◌}
 use mathlib.Core.Path.{sym, ◌∙◌}
-use mathlib.Core.List.{List}
-use mathlib.Core.Logic.{⊎_elim}
-use lib.ListN.{length, length-set}
+use lib.ListN.{length-set}
 use native.Mathlib.Omega.{arith}
-use borrow.Author.Rules.{rules}
-use Rattle.tables.specs.Tables.{Tables}
 use Rattle.trace.specs.Replay.{line_of}
-use Rattle.trace.specs.Stretch.{ran_on}
 use Rattle.trace.proofs.Put.{Puts, put_here, put_past}
-use Rattle.trace.proofs.Rest.{Going, going_starts, goes_on_lem, going_ends}
-use Rattle.trace.proofs.run_events.Reads as reads
-use Rattle.trace.proofs.run_events.Lts as lts
-use Rattle.events.proofs.event_known.Reads as event-known-reads
-use Rattle.fields.proofs.event_at.Reads as event-at-reads
-use Rattle.fields.proofs.event_size.Reads as event-size-reads
-use Rattle.reply.proofs.number_of.Reads as number-of-reads
-use Rattle.reply.proofs.value_of.Reads as value-of-reads
+use Rattle.trace.proofs.Rest.{going_starts, goes_on_lem, going_ends}
 use Rattle.trace.proofs.run_events.Goals as goal
 use Rattle.trace.proofs.run_events.Goals.{Joined-events-room, then-events-room, else-events-room}
-use Rattle.trace.proofs.run_events.Invariants.{tables_at}
 
 -- the event's line is put where there is room
 line_put : (c : Joined-events-room)
@@ -30,7 +17,7 @@ line_put c =
     let at = c.loop-s in
     let line = line_of (at.last + 1) c.event_known-y.result.answer in
     elim c.if-events-room.branch [
-      then-events-room w ↦ put_here at.events line (omega (arith, w.if-events-room.true, at.invariant.half, at.invariant.long)) w.number_of.ensures w.value_of.ensures w.answers-is
+      | then-events-room w ↦ put_here at.events line (omega (arith, w.if-events-room.true, at.invariant.half, at.invariant.long)) w.number_of.ensures w.value_of.ensures w.answers-is
       | else-events-room w ↦ put_past at.events line (omega (arith, w.if-events-room.false, at.invariant.half, at.invariant.long)) w.answers-is
     ]
 

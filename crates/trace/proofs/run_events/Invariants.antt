@@ -1,23 +1,10 @@
 -- The loop of `run_events`.
-use Prim.Native.Nat.{ℕ, ◌+◌, ◌-◌}
-use mathlib.Core.Path.{sym, ◌∙◌}
+use Prim.Native.Nat.{ℕ, ◌-◌}
 use mathlib.Core.List.{List}
-use mathlib.Core.Logic.{⊎_elim}
-use lib.ListN.{length, length-set}
-use native.Mathlib.Omega.{arith}
-use borrow.Author.Rules.{rules}
+use lib.ListN.{length}
 use Rattle.tables.specs.Tables.{Tables}
-use Rattle.trace.specs.Replay.{line_of}
 use Rattle.trace.specs.Stretch.{ran_on}
-use Rattle.trace.proofs.Put.{Puts, put_here, put_past}
-use Rattle.trace.proofs.Rest.{Going, going_starts, goes_on_lem, going_ends}
-use Rattle.trace.proofs.run_events.Reads as reads
-use Rattle.trace.proofs.run_events.Lts as lts
-use Rattle.events.proofs.event_known.Reads as event-known-reads
-use Rattle.fields.proofs.event_at.Reads as event-at-reads
-use Rattle.fields.proofs.event_size.Reads as event-size-reads
-use Rattle.reply.proofs.number_of.Reads as number-of-reads
-use Rattle.reply.proofs.value_of.Reads as value-of-reads
+use Rattle.trace.proofs.Rest.{Going}
 use Rattle.trace.proofs.run_events.Given as goal
 
 abbrev pub tables_at : (used counts held candidates makers values changed registers snoops logs history lengths : List ℕ) → Tables

@@ -1,23 +1,16 @@
 -- `trace::stand_behind` meets its contract: a turn passes over the end field; the trace waits, has ended, or stops at what stands next. Assumes nothing.
-use Prim.Native.Nat.{ℕ, ◌+◌, ◌≤◌}
+use Prim.Native.Nat.{ℕ, ◌+◌}
 use mathlib.Core.Path.{◌≡◌, refl, sym, ap, ◌∙◌}
 use mathlib.Core.Bool.{false}
-use mathlib.Core.List.{[], ◌∷◌}
-use mathlib.Core.Logic.{⊎_elim, inl, inr}
+use mathlib.Core.Logic.{inl, inr}
 use native.Mathlib.Omega.{arith}
-use types.Run.{miss}
-use borrow.Author.Rules.{rules}
 use lib.Dec.{ltb}
 use lib.ListN.{length}
 use Rattle.fresh.specs.Free.{free_in}
 use Rattle.fields.specs.Part.{longest}
 use Rattle.trace.specs.declared.Ending.TheVariants.{Whole}
-use Rattle.trace.specs.Stand.{waits, ended, stood, stand_behind}
+use Rattle.trace.specs.Stand.{waits, ended, stood}
 use Rattle.trace.proofs.Behind.{few_left, waits_are, look_waits, look_finds, look_other, stood_out}
-use Rattle.trace.proofs.stand_behind.Reads as reads
-use Rattle.trace.proofs.stand_behind.Lts as lts
-use Rattle.fields.proofs.read_at.Reads as read-at-reads
-use Rattle.fresh.proofs.free_records.Reads as free-records-reads
 use Rattle.trace.proofs.stand_behind.Goals as goal
 use Rattle.trace.proofs.stand_behind.Goals.{Else-last-bytes, Joined-bytes-lt13, then-bytes-lt13, else-bytes-lt13}
 
@@ -101,8 +94,7 @@ pub loop-fields-preserved : goal.loop-fields-preserved
 loop-fields-preserved c =
     let at = c in
     let start = at in
-    let free = free_in start.args.n start.args.used.now in
-    (
+    let free = free_in start.args.n start.args.used.now in (
       omega arith,
       sym (stood_out start.args.last free start.args.closed start.args.bytes.now at.loop-fields.next at.loop-fields.now)
           ∙ look_other at.loop-fields.fields start.args.last free start.args.closed start.args.bytes.now at.loop-fields.next at.loop-fields.now

@@ -1,7 +1,6 @@
 -- `worker::chosen` meets its contract: `above_is`, or `lowest_is` where none above is free. Assumes nothing.
 use mathlib.Core.Path.{◌≡◌, sym, ap, ◌∙◌}
 use native.Mathlib.Omega.{arith}
-use borrow.Author.Rules.{rules}
 use Rattle.rules.specs.declared.RecordNumber.{RecordNumber}
 use Rattle.rules.specs.Pool.{Pool}
 use Rattle.rules.specs.Worker.{first_above}

@@ -1,7 +1,6 @@
 -- `worker::drops` meets its contract: it is `no_such_register` or `dropped`. Assumes nothing.
 use mathlib.Core.Path.{◌≡◌, refl, sym, ◌∙◌}
 use mathlib.Core.Bool.{true, ◌&&◌}
-use borrow.Author.Tests.{not-true, not-false}
 use lib.ListN.{set}
 use Rattle.rules.specs.declared.Event.TheVariants.{Drop}
 use Rattle.rules.specs.declared.Answer.TheVariants.{Dropped}
@@ -10,7 +9,6 @@ use Rattle.laws.proofs.Refusals.{register_there}
 use Rattle.tables.specs.Tables.{put_registers}
 use Rattle.worker.proofs.Refused.{no_such_register}
 use Rattle.worker.proofs.Events.{dropped}
-use borrow.Author.Rules.{rules}
 use Rattle.worker.proofs.drops.Goals as goal
 use Rattle.worker.proofs.drops.Goals.{Else-not-worker-there}
 

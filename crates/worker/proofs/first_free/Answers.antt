@@ -3,7 +3,6 @@ use Prim.Native.Nat.{ℕ, suc}
 use mathlib.Core.Path.{sym, ap, ◌∙◌}
 use native.Mathlib.Omega.{arith}
 use native.Mathlib.Numerals.{add-one}
-use borrow.Author.Rules.{rules}
 use Rattle.tables.specs.Lie.{record_number}
 use Rattle.worker.proofs.Free.{free_at, free_nowhere}
 use Rattle.worker.proofs.first_free.Goals as goal

@@ -9,7 +9,6 @@ use Rattle.tables.specs.Lie.{record_number}
 use Rattle.worker.specs.Lent.{stores_on, logged_on, held_after, link_taken}
 use Rattle.worker.proofs.Events.{register_low}
 use Rattle.worker.proofs.Store.{room-stands}
-use borrow.Author.Rules.{rules}
 use Rattle.worker.proofs.link_takes.Goals as goal
 use Rattle.worker.proofs.link_takes.Goals.{After-register_place-from, After-wide-link, Start}
 

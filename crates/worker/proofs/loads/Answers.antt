@@ -3,7 +3,6 @@ use Prim.Native.Nat.{ℕ, ◌+◌, ◌*◌, ◌<◌}
 use mathlib.Core.Path.{◌≡◌, refl, sym, ap, ◌∙◌}
 use mathlib.Core.Bool.{true, ◌&&◌}
 use native.Mathlib.Omega.{arith}
-use borrow.Author.Tests.{not-true, not-false}
 use lib.ListN.{get_or, set}
 use Rattle.rules.specs.declared.Event.TheVariants.{Load}
 use Rattle.rules.specs.declared.Answer.TheVariants.{Loaded}
@@ -15,7 +14,6 @@ use Rattle.tables.specs.Lie.{record_number}
 use Rattle.worker.proofs.Refused.{no_such_lem, load_holds-none}
 use Rattle.worker.proofs.Events.{register_low, base_stands, loaded}
 use Rattle.worker.specs.Lent.{loads_on}
-use borrow.Author.Rules.{rules}
 use Rattle.worker.proofs.loads.Goals as goal
 use Rattle.worker.proofs.loads.Goals.{Else-not-worker-there, Start}
 

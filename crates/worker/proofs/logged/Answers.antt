@@ -9,7 +9,6 @@ use Rattle.laws.proofs.Number.{links_most}
 use Rattle.tables.specs.Bits.{marked}
 use Rattle.tables.specs.Lie.{room}
 use Rattle.worker.specs.Lent.{logs_on, logged_on}
-use borrow.Author.Rules.{rules}
 use Rattle.worker.proofs.logged.Goals as goal
 use Rattle.worker.proofs.logged.Goals.{After-wide}
 

@@ -2,7 +2,6 @@
 use Prim.Native.Nat.{ℕ, ◌+◌, ◌*◌, ◌<◌}
 use mathlib.Core.Path.{◌≡◌, refl, sym, ◌∙◌}
 use mathlib.Core.Bool.{true, ◌&&◌}
-use borrow.Author.Tests.{not-true, not-false}
 use lib.ListN.{get_or, set}
 use Rattle.rules.specs.declared.Event.TheVariants.{Look}
 use Rattle.rules.specs.declared.Answer.TheVariants.{Loaded}
@@ -13,7 +12,6 @@ use Rattle.tables.specs.Lie.{record_number}
 use Rattle.worker.proofs.Refused.{no_such_lem}
 use Rattle.worker.proofs.Events.{looked}
 use Rattle.worker.specs.Lent.{loads_on}
-use borrow.Author.Rules.{rules}
 use Rattle.worker.proofs.looks.Goals as goal
 use Rattle.worker.proofs.looks.Goals.{Else-not-worker-there, Start}
 

@@ -3,7 +3,6 @@ use Prim.Native.Nat.{ℕ, ◌+◌, ◌-◌, ◌*◌, ◌<◌}
 use mathlib.Core.Path.{◌≡◌, refl, sym, ap, ◌∙◌}
 use mathlib.Core.Bool.{true, ◌&&◌}
 use native.Mathlib.Omega.{arith}
-use borrow.Author.Tests.{not-true, not-false}
 use lib.ListN.{set, length-set}
 use Rattle.rules.specs.declared.RecordNumber.{RecordNumber}
 use Rattle.rules.specs.declared.Event.TheVariants.{Make}
@@ -20,7 +19,6 @@ use Rattle.laws.proofs.Refusals.{register_there}
 use Rattle.worker.specs.Lent.{makes_on}
 use Rattle.worker.proofs.Refused.{no_such_register, make_none_free}
 use Rattle.worker.proofs.Events.{marks_stand, last_stands, last_low, chosen_inside, made}
-use borrow.Author.Rules.{rules}
 use Rattle.worker.proofs.makes.Goals as goal
 use Rattle.worker.proofs.makes.Goals.{After-chosen-a, After-record_place-place, Else-not-worker-there, Start}
 

@@ -2,7 +2,6 @@
 use mathlib.Core.Path.{◌≡◌, refl, sym, ◌∙◌}
 use mathlib.Core.Bool.{true, ◌&&◌}
 use Prim.Native.Nat.{ℕ, ◌<◌}
-use borrow.Author.Tests.{not-true, not-false}
 use lib.ListN.{get_or, set}
 use Rattle.rules.specs.declared.Event.TheVariants.{Move}
 use Rattle.rules.specs.declared.Answer.TheVariants.{Moved}
@@ -12,7 +11,6 @@ use Rattle.tables.specs.Tables.{put_registers}
 use Rattle.tables.specs.Lie.{record_number}
 use Rattle.worker.proofs.Refused.{no_such_register}
 use Rattle.worker.proofs.Events.{moved}
-use borrow.Author.Rules.{rules}
 use Rattle.worker.proofs.moves.Goals as goal
 use Rattle.worker.proofs.moves.Goals.{Else-not-worker-there, Start}
 

@@ -1,7 +1,6 @@
 -- `worker::posts` meets its contract: it is `no_such_lem` or `posted`. Assumes nothing.
 use mathlib.Core.Path.{◌≡◌, refl, sym, ◌∙◌}
 use mathlib.Core.Bool.{true, ◌&&◌}
-use borrow.Author.Tests.{not-true, not-false}
 use lib.ListN.{get_or}
 use Prim.Native.Nat.{◌<◌}
 use Rattle.rules.specs.declared.LinkNumber.{LinkNumber}
@@ -15,7 +14,6 @@ use Rattle.tables.specs.Lie.{record_number}
 use Rattle.worker.specs.Lent.{stores_on, link_taken}
 use Rattle.worker.proofs.Refused.{no_such_lem}
 use Rattle.worker.proofs.Store.{posted}
-use borrow.Author.Rules.{rules}
 use Rattle.worker.proofs.posts.Goals as goal
 use Rattle.worker.proofs.posts.Goals.{After-board_number-l, Else-not-worker-there, Start}
 

@@ -4,7 +4,6 @@ use mathlib.Core.Path.{ap}
 use native.Mathlib.Omega.{arith}
 use lib.ListN.{get_or, set}
 use Rattle.tables.specs.Lie.{record_number}
-use borrow.Author.Rules.{rules}
 use Rattle.worker.proofs.register_takes.Goals as goal
 
 pub bounds-values-link : goal.bounds-values-link

@@ -2,10 +2,8 @@
 use mathlib.Core.Path.{refl, sym, ◌∙◌}
 use mathlib.Core.Bool.{true}
 use native.Mathlib.Omega.{arith}
-use borrow.Author.Tests.{not-true, not-false}
 use Rattle.tables.proofs.Packed.{mark_place}
 use Rattle.worker.specs.Lent.{held_after}
-use borrow.Author.Rules.{rules}
 use Rattle.worker.proofs.snooped.Goals as goal
 
 pub returns-then-not-is_flagged : goal.returns-then-not-is_flagged

@@ -3,7 +3,6 @@ use Prim.Native.Nat.{ℕ, ◌+◌, ◌*◌}
 use mathlib.Core.Path.{◌≡◌, refl, sym, ap, ◌∙◌}
 use mathlib.Core.Bool.{true, ◌&&◌}
 use native.Mathlib.Omega.{arith}
-use borrow.Author.Tests.{not-true, not-false}
 use lib.ListN.{get_or}
 use Rattle.rules.specs.declared.RecordNumber.{RecordNumber}
 use Rattle.rules.specs.declared.LinkNumber.{LinkNumber}
@@ -18,7 +17,6 @@ use Rattle.worker.specs.Lent.{stores_on, link_taken}
 use Rattle.worker.proofs.Refused.{no_such_lem, store_holds-none}
 use Rattle.worker.proofs.Events.{register_low, base_stands}
 use Rattle.worker.proofs.Store.{stored}
-use borrow.Author.Rules.{rules}
 use Rattle.worker.proofs.stores.Goals as goal
 use Rattle.worker.proofs.stores.Goals.{After-link_number-l, After-register_place-through, Else-not-worker-there, Start}
 

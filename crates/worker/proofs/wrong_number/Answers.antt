@@ -1,5 +1,4 @@
 -- `worker::wrong_number` meets its contract. Assumes nothing.
-use borrow.Author.Tests.{not-true, not-false}
 use Rattle.worker.proofs.wrong_number.Goals as goal
 
 pub returns-then-not-worker : goal.returns-then-not-worker

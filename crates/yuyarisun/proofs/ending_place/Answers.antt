@@ -1,7 +1,6 @@
 -- Each arm is an equation of the definition.
 use mathlib.Core.Path.{refl}
 use Rattle.yuyarisun.specs.Several.{ending_place}
-use borrow.Author.Rules.{rules}
 use Rattle.yuyarisun.proofs.ending_place.Goals as goal
 
 pub returns-in-Whole : goal.returns-in-Whole

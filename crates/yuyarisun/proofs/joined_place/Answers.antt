@@ -1,7 +1,6 @@
 -- Each arm is an equation of the definition.
 use mathlib.Core.Path.{refl}
 use Rattle.yuyarisun.specs.Join.{joined_place}
-use borrow.Author.Rules.{rules}
 use Rattle.yuyarisun.proofs.joined_place.Goals as goal
 
 pub returns-in-Length : goal.returns-in-Length

@@ -1,5 +1,4 @@
 -- The call of `pool`, in numbers.
-use borrow.Author.Rules.{rules}
 use Rattle.yuyarisun.proofs.InNumbers.{in_numbers}
 use Rattle.yuyarisun.proofs.one_event.Goals as goal
 

@@ -1,7 +1,6 @@
 -- Each arm is an equation of the definition.
 use mathlib.Core.Path.{refl}
 use Rattle.yuyarisun.specs.Several.{rest_number}
-use borrow.Author.Rules.{rules}
 use Rattle.yuyarisun.proofs.rest_number.Goals as goal
 
 pub returns-in-Nothing : goal.returns-in-Nothing

@@ -1,6 +1,5 @@
 -- The call of `many`, in numbers.
 use Rattle.yuyarisun.proofs.InNumbers.{many_in_numbers}
-use borrow.Author.Rules.{rules}
 use Rattle.yuyarisun.proofs.yuyarisun_events.Goals as goal
 
 pub shape_of-used : goal.shape_of-used

@@ -1,6 +1,5 @@
 -- The call of `pool`, in numbers.
 use mathlib.Core.Path.{sym, ap, ◌∙◌}
-use borrow.Author.Rules.{rules}
 use Rattle.rules.specs.Reply.{value}
 use Rattle.tables.specs.Event.{Called}
 use Rattle.yuyarisun.proofs.InNumbers.{in_numbers, fresh-value}

@@ -1,6 +1,5 @@
 -- The event on a pool that is known to be sound, in numbers.
 use mathlib.Core.Path.{sym}
-use borrow.Author.Rules.{rules}
 use Rattle.yuyarisun.proofs.InNumbers.{in_numbers}
 use Rattle.yuyarisun.proofs.yuyarisun_inner_event.Goals as goal
 

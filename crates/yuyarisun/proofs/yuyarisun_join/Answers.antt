@@ -1,6 +1,5 @@
 -- The call of `join`, in numbers.
-use mathlib.Core.Path.{◌≡◌, sym, ap, ◌∙◌}
-use borrow.Author.Rules.{rules}
+use mathlib.Core.Path.{sym, ap, ◌∙◌}
 use Rattle.yuyarisun.specs.Join.{join_numbers}
 use Rattle.yuyarisun.proofs.yuyarisun_join.Goals as goal
 

@@ -1,5 +1,4 @@
 -- The event of this kind, by `one_event`.
-use borrow.Author.Rules.{rules}
 use Rattle.yuyarisun.proofs.yuyarisun_load.Goals as goal
 
 pub shape_of-used : goal.shape_of-used

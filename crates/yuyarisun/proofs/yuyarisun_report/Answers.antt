@@ -1,6 +1,5 @@
 -- The call of `tally`, in numbers.
 use Rattle.yuyarisun.proofs.InNumbers.{report_in_numbers}
-use borrow.Author.Rules.{rules}
 use Rattle.yuyarisun.proofs.yuyarisun_report.Goals as goal
 
 pub shape_of-used : goal.shape_of-used

@@ -1,6 +1,5 @@
 -- The call of `trace`, in numbers.
 use Rattle.yuyarisun.proofs.InNumbers.{trace_in_numbers}
-use borrow.Author.Rules.{rules}
 use Rattle.yuyarisun.proofs.yuyarisun_trace.Goals as goal
 
 pub shape_of-used : goal.shape_of-used

@@ -8,7 +8,6 @@ use Rattle.rules.specs.Pool.{of_record}
 use Rattle.tables.specs.Counted.{fewer, fallen}
 use Rattle.tables.proofs.Packed.{mark_inside, mark_place}
 use Rattle.tables.proofs.Counted.{number_here, changed_here, fallen_on, fallen_off}
-use borrow.Author.Rules.{rules}
 use Rattle.tables.proofs.count.falls.Goals as goal
 
 pub returns-then-a-eq0 : goal.returns-then-a-eq0

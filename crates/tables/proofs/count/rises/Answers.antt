@@ -4,7 +4,6 @@ use mathlib.Core.Path.{refl}
 use native.Mathlib.Omega.{arith}
 use Rattle.tables.specs.Counted.{more}
 use Rattle.tables.proofs.Counted.{number_here, changed_here}
-use borrow.Author.Rules.{rules}
 use Rattle.tables.proofs.count.rises.Goals as goal
 
 pub returns-then-a-eq0 : goal.returns-then-a-eq0

@@ -1,11 +1,10 @@
 -- `tables::list::clear` meets its contract. The loop's invariant: the numbers passed are 0 and the others as they were. Assumes nothing.
-use Prim.Native.Nat.{ℕ, ◌≤◌, ◌-◌}
+use Prim.Native.Nat.{ℕ}
 use mathlib.Core.Path.{◌≡◌, ap, ◌∙◌}
 use mathlib.Core.List.{List, ◌++◌, append-nil}
 use lib.Seq.{drop-length}
 use native.Mathlib.Omega.{arith}
 use lib.ListN.{length, drop, set, replicate, length-set}
-use borrow.Author.Rules.{rules}
 use borrow.Author.Fill.{fill_more}
 use Rattle.tables.proofs.list.clear.Goals as goal
 

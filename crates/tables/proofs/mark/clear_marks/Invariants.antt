@@ -1,12 +1,8 @@
 -- The loop of `mark.clear_marks`.
-use Prim.Native.Nat.{ℕ, ◌≤◌, ◌-◌}
-use mathlib.Core.Path.{◌≡◌, ap, ◌∙◌}
-use mathlib.Core.List.{List, ◌++◌, append-nil}
-use lib.Seq.{drop-length}
-use native.Mathlib.Omega.{arith}
-use lib.ListN.{length, drop, set, replicate, length-set}
-use borrow.Author.Rules.{rules}
-use borrow.Author.Fill.{fill_more}
+use Prim.Native.Nat.{◌≤◌, ◌-◌}
+use mathlib.Core.Path.{◌≡◌}
+use mathlib.Core.List.{◌++◌}
+use lib.ListN.{length, drop, replicate}
 use Rattle.tables.proofs.mark.clear_marks.Given as goal
 
 abbrev pub invariant-loop-i : goal.invariant-loop-i

@@ -1,12 +1,11 @@
 -- `tables::mark::count_off` meets its contract. The loop's invariant: what is left to count is what the rest of the words leaves. Assumes nothing.
-use Prim.Native.Nat.{ℕ, ◌+◌, ◌-◌, ◌≤◌, ◌<◌, ◌^◌}
+use Prim.Native.Nat.{ℕ, ◌+◌, ◌≤◌, ◌<◌, ◌^◌}
 use mathlib.Core.List.{List}
 use mathlib.Core.Path.{◌≡◌, ap}
 use native.Mathlib.Omega.{arith}
 use native.Mathlib.Numerals.{add-one}
 use lib.Count.{ones, ones-le}
 use lib.ListN.{length, get_or, drop}
-use borrow.Author.Rules.{rules}
 use Rattle.tables.specs.Bits.{bits_of, ones_of}
 use Rattle.tables.proofs.Searched.{ones_next, none_left}
 use Rattle.tables.proofs.mark.count_off.Goals as goal

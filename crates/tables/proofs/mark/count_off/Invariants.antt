@@ -1,13 +1,8 @@
 -- The loop of `mark.count_off`.
-use Prim.Native.Nat.{ℕ, ◌+◌, ◌-◌, ◌≤◌}
-use mathlib.Core.Path.{◌≡◌, ap}
-use native.Mathlib.Omega.{arith}
-use native.Mathlib.Numerals.{add-one}
-use lib.Count.{ones, ones-le}
-use lib.ListN.{length, get_or, drop}
-use borrow.Author.Rules.{rules}
+use Prim.Native.Nat.{◌-◌, ◌≤◌}
+use mathlib.Core.Path.{◌≡◌}
+use lib.ListN.{length, drop}
 use Rattle.tables.specs.Bits.{bits_of, ones_of}
-use Rattle.tables.proofs.Searched.{ones_next, none_left}
 use Rattle.tables.proofs.mark.count_off.Given as goal
 
 abbrev pub invariant-loop-i : goal.invariant-loop-i

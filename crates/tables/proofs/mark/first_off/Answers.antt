@@ -8,9 +8,7 @@ use lib.Bits.{bit_or, or_lt}
 use lib.Count.{trailing_le}
 use lib.Dec.{lit<}
 use lib.Pow.{pow_pos, pow_mono}
-use lib.ListN.{length, get_or, drop}
-use borrow.Author.Rules.{rules}
-use Rattle.tables.specs.Bits.{bits_of, first_off}
+use lib.ListN.{get_or, drop}
 use Rattle.tables.proofs.Digits.{mask_is}
 use Rattle.tables.proofs.Searched.{left, left_from, left-ends, left-goes, left_past}
 use Rattle.tables.proofs.mark.first_off.Goals as goal

@@ -1,17 +1,9 @@
 -- The loop of `mark.first_off`.
-use Prim.Native.Nat.{ℕ, ◌+◌, ◌*◌, ◌/◌, ◌%◌, ◌-◌, ◌^◌, ◌≤◌, ◌<◌}
-use mathlib.Core.Path.{◌≡◌, sym, ap, ◌∙◌}
-use native.Mathlib.Omega.{arith}
-use native.Mathlib.Nat.{mod-lt, zero-lt-suc}
-use lib.Bits.{bit_or, or_lt}
-use lib.Count.{trailing_le}
-use lib.Dec.{lit<}
-use lib.Pow.{pow_pos, pow_mono}
-use lib.ListN.{length, get_or, drop}
-use borrow.Author.Rules.{rules}
+use Prim.Native.Nat.{◌+◌, ◌*◌, ◌-◌, ◌^◌, ◌≤◌, ◌<◌}
+use mathlib.Core.Path.{◌≡◌}
+use lib.ListN.{length, drop}
 use Rattle.tables.specs.Bits.{bits_of, first_off}
-use Rattle.tables.proofs.Digits.{mask_is}
-use Rattle.tables.proofs.Searched.{left, left_from, left-ends, left-goes, left_past}
+use Rattle.tables.proofs.Searched.{left}
 use Rattle.tables.proofs.mark.first_off.Given as goal
 
 abbrev pub invariant-loop-i : goal.invariant-loop-i

@@ -3,7 +3,6 @@ use Prim.Native.Nat.{ℕ, ◌/◌, ◌^◌}
 use mathlib.Core.Path.{sym, ap, ◌∙◌}
 use lib.Dec.{eqb}
 use lib.Bits.{and_mask}
-use borrow.Author.Rules.{rules}
 use Rattle.tables.proofs.Digits.{shifted_bit}
 use Rattle.tables.proofs.mark.has_bit.Goals as goal
 

@@ -3,7 +3,6 @@ use Prim.Native.Nat.{◌/◌, ◌%◌}
 use mathlib.Core.Path.{sym, ap, ◌∙◌}
 use native.Mathlib.Omega.{arith}
 use native.Mathlib.Nat.{mod-lt, zero-lt-suc, div-add-mod'}
-use borrow.Author.Rules.{rules}
 use Rattle.tables.specs.Bits.{mark_at}
 use Rattle.tables.proofs.Words.{bit_at}
 use Rattle.tables.proofs.mark.is_on.Goals as goal

@@ -1,15 +1,9 @@
 -- The loop of `mark.keep_standing`.
-use Prim.Native.Nat.{ℕ, ◌-◌, ◌*◌, ◌^◌, ◌≤◌, ◌<◌}
-use mathlib.Core.Path.{◌≡◌, refl, ap, ◌∙◌}
-use mathlib.Core.List.{List}
-use native.Mathlib.Omega.{arith}
-use lib.Bits.{bit_and}
-use lib.ListN.{length, get_or, drop, set, length-set, length-drop}
-use lib.Seq.{paste, paste-zero, take_all}
-use borrow.Author.Rules.{rules}
-use Rattle.laws.proofs.Lists.{Each-places}
-use Rattle.tables.specs.Bits.{number, stands, only_standing}
-use Rattle.tables.proofs.Standing.{and_word, length_only, pasted_here, pasted_next, pasted_all}
+use Prim.Native.Nat.{◌-◌, ◌≤◌}
+use mathlib.Core.Path.{◌≡◌}
+use lib.ListN.{length}
+use lib.Seq.{paste}
+use Rattle.tables.specs.Bits.{only_standing}
 use Rattle.tables.proofs.mark.keep_standing.Given as goal
 
 abbrev pub invariant-loop-i : goal.invariant-loop-i

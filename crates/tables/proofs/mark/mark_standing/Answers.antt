@@ -1,12 +1,11 @@
 -- `tables::mark::mark_standing` meets its contract. The loop's invariant: the words passed are those of the result, the others as they were. Assumes nothing.
-use Prim.Native.Nat.{ℕ, ◌-◌, ◌*◌, ◌^◌, ◌≤◌, ◌<◌}
+use Prim.Native.Nat.{ℕ, ◌-◌, ◌*◌, ◌^◌, ◌<◌}
 use mathlib.Core.Path.{◌≡◌, refl, ap, ◌∙◌}
 use mathlib.Core.List.{List}
 use native.Mathlib.Omega.{arith}
 use lib.Bits.{bit_or}
 use lib.ListN.{length, get_or, drop, set, length-set, length-drop}
 use lib.Seq.{paste, paste-zero, take_all}
-use borrow.Author.Rules.{rules}
 use Rattle.laws.proofs.Lists.{Each-places}
 use Rattle.tables.specs.Bits.{number, stands, with_standing}
 use Rattle.tables.proofs.Standing.{or_word, length_with, pasted_here, pasted_next, pasted_all}

@@ -3,7 +3,6 @@ use Prim.Native.Nat.{ℕ, ◌+◌, ◌/◌, ◌%◌}
 use mathlib.Core.Path.{ap, ◌∙◌}
 use native.Mathlib.Omega.{arith}
 use native.Mathlib.Nat.{mod-lt, zero-lt-suc, div-add-mod'}
-use borrow.Author.Rules.{rules}
 use Rattle.tables.specs.Bits.{mark_at}
 use Rattle.tables.proofs.Row.{marks_one, marks_two}
 use Rattle.tables.proofs.mark.marks_from.Goals as goal

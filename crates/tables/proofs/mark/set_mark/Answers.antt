@@ -1,7 +1,6 @@
 -- `tables::mark::set_mark` meets its contract: one bit of one word is another. Assumes nothing.
 use Prim.Native.Nat.{◌^◌, ◌<◌}
 use native.Mathlib.Omega.{arith}
-use borrow.Author.Rules.{rules}
 use Rattle.laws.proofs.Lists.{Each-places}
 use Rattle.tables.proofs.Packed.{word_marked}
 use Rattle.tables.proofs.mark.set_mark.Goals as goal

@@ -1,13 +1,12 @@
 -- `tables::mark::standing` meets its contract. The loop's invariant: the word so far is the number of the places passed. Assumes nothing.
-use Prim.Native.Nat.{ℕ, ◌+◌, ◌-◌, ◌*◌, ◌%◌, ◌^◌, ◌≤◌}
+use Prim.Native.Nat.{ℕ, ◌+◌, ◌-◌, ◌*◌, ◌%◌, ◌^◌}
 use mathlib.Core.Path.{◌≡◌, refl, sym, ap, ◌∙◌}
 use mathlib.Core.Bool.{Bool, false}
 use mir.Val.{bool_byte}
 use lib.Bits.{bit_or}
 use native.Mathlib.Omega.{arith}
 use lib.Dec.{eqb}
-use lib.ListN.{length, get_or, length-map}
-use borrow.Author.Rules.{rules}
+use lib.ListN.{get_or, length-map}
 use Rattle.laws.proofs.Lists.{map_at}
 use Rattle.tables.specs.Bits.{number, stands}
 use Rattle.tables.proofs.Standing.{number_short, byte_joined}

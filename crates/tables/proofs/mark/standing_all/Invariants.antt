@@ -1,19 +1,8 @@
 -- The loop of `mark.standing_all`.
-use Prim.Native.Nat.{ℕ, ◌+◌, ◌-◌, ◌*◌, ◌%◌, ◌^◌, ◌≤◌}
-use mathlib.Core.Path.{◌≡◌, refl, ap, ◌∙◌}
-use mathlib.Core.Bool.{Bool, false}
-use mathlib.Core.List.{List}
-use mir.Val.{bool_byte}
-use lib.Bits.{bit_or}
-use native.Mathlib.Omega.{arith}
-use lib.Dec.{eqb}
-use lib.ListN.{get_or, drop}
-use lib.Seq.{get_or-drop}
-use borrow.Author.Rules.{rules}
-use Rattle.laws.proofs.Lists.{map_at}
+use Prim.Native.Nat.{◌-◌, ◌≤◌}
+use mathlib.Core.Path.{◌≡◌}
+use lib.ListN.{drop}
 use Rattle.tables.specs.Bits.{number, stands}
-use Rattle.tables.proofs.Digits.{number-low}
-use Rattle.tables.proofs.Standing.{byte_joined, halves_joined}
 use Rattle.tables.proofs.mark.standing_all.Given as goal
 
 abbrev pub invariant-loop-i : goal.invariant-loop-i

@@ -3,7 +3,6 @@ use Prim.Native.Nat.{ℕ, ◌-◌, ◌^◌}
 use mathlib.Core.Path.{sym, ap, ◌∙◌}
 use lib.Bits.{bit_and, bit_or}
 use lib.ListN.{set}
-use borrow.Author.Rules.{rules}
 use Rattle.tables.specs.Bits.{digits}
 use Rattle.tables.proofs.Digits.{mask_is, or_set, and_set}
 use Rattle.tables.proofs.mark.with_bit.Goals as goal

@@ -1,7 +1,6 @@
 -- `tables::place::last_place` meets its contract. Assumes nothing.
 use native.Mathlib.Omega.{arith}
 use native.Mathlib.Nat.{mul-le-mul_left}
-use borrow.Author.Rules.{rules}
 use Rattle.laws.proofs.Number.{bounds}
 use Rattle.tables.proofs.place.last_place.Goals as goal
 

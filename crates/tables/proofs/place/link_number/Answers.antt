@@ -3,7 +3,6 @@ use native.Mathlib.Omega.{arith}
 use Rattle.laws.proofs.Number.{link_low, link_inside}
 use Rattle.rules.specs.Size.{link_number}
 use mathlib.Core.Path.{refl}
-use borrow.Author.Rules.{rules}
 use Rattle.tables.proofs.place.link_number.Goals as goal
 
 pub overflow_mul-result : goal.overflow_mul-result

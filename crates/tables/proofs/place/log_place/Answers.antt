@@ -5,7 +5,6 @@ use Prim.Native.Nat.{ℕ, ◌*◌, ◌≤◌}
 use mathlib.Core.Path.{◌≡◌, ap}
 use native.Mathlib.Nat.{mul-le-mul_left}
 use Rattle.tables.specs.Lie.{room}
-use borrow.Author.Rules.{rules}
 use Rattle.tables.proofs.place.log_place.Goals as goal
 
 pub overflow_mul-result-2 : goal.overflow_mul-result-2

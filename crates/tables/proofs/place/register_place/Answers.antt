@@ -3,7 +3,6 @@ use native.Mathlib.Omega.{arith}
 use Rattle.laws.proofs.Number.{bounds, block_inside}
 use mathlib.Core.Path.{refl}
 use native.Mathlib.Nat.{mul-le-mul_left}
-use borrow.Author.Rules.{rules}
 use Rattle.tables.proofs.place.register_place.Goals as goal
 
 pub overflow_mul-result : goal.overflow_mul-result

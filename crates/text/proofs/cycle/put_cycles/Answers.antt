@@ -1,14 +1,10 @@
 -- `text::cycle::put_cycles` meets its contract. The loop's invariant: the lines of the cycles that are left, written from `at` on, complete the text; a line is given
 -- 114 bytes, 38 for each number of `numbers`. Assumes nothing.
-use Prim.Native.Nat.{◌+◌, ◌-◌, ◌*◌, ◌≤◌}
-use mathlib.Core.Path.{◌≡◌, refl, sym, ◌∙◌}
+use Prim.Native.Nat.{◌+◌}
+use mathlib.Core.Path.{refl, sym, ◌∙◌}
 use native.Mathlib.Omega.{arith}
-use borrow.Author.Rules.{rules}
 use lib.IntN.{ℤ, pos, nat_abs}
-use lib.ListN.{length, get_or, drop}
-use lib.Seq.{sets}
-use Rattle.text.specs.Text.{Written}
-use Rattle.text.specs.Cycle.{cycles_text, Printable}
+use lib.ListN.{get_or}
 use Rattle.text.proofs.Below.{as_held}
 use Rattle.text.proofs.Cycles.{Three, three, cycles_out, as_it_is, size, cycle_most}
 use Rattle.text.proofs.Written.{written_rest, written_same, written_start}

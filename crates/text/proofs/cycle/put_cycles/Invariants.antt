@@ -1,16 +1,10 @@
 -- The loop of `cycle.put_cycles`.
 use Prim.Native.Nat.{◌+◌, ◌-◌, ◌*◌, ◌≤◌}
-use mathlib.Core.Path.{◌≡◌, refl, sym, ◌∙◌}
-use native.Mathlib.Omega.{arith}
-use borrow.Author.Rules.{rules}
-use lib.IntN.{ℤ, pos, nat_abs}
-use lib.ListN.{length, get_or, drop}
+use mathlib.Core.Path.{◌≡◌}
+use lib.ListN.{length, drop}
 use lib.Seq.{sets}
 use Rattle.text.specs.Text.{Written}
 use Rattle.text.specs.Cycle.{cycles_text, Printable}
-use Rattle.text.proofs.Below.{as_held}
-use Rattle.text.proofs.Cycles.{Three, three, cycles_out, as_it_is, size, cycle_most}
-use Rattle.text.proofs.Written.{written_rest, written_same, written_start}
 use Rattle.text.proofs.cycle.put_cycles.Given as goal
 
 abbrev pub invariant-loop-i : goal.invariant-loop-i

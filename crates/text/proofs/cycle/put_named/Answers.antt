@@ -1,5 +1,4 @@
 -- `text::cycle::put_named` meets its contract: the word and the number are written one behind the other. Assumes nothing.
-use borrow.Author.Rules.{rules}
 use Rattle.text.proofs.Written.{written_both}
 use Rattle.text.proofs.cycle.put_named.Goals as goal
 

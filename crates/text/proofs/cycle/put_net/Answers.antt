@@ -1,7 +1,6 @@
 -- `text::cycle::put_net` meets its contract, by the test of the sign. Assumes nothing.
 use mathlib.Core.List.{[], ◌∷◌}
 use native.Mathlib.Omega.{arith}
-use borrow.Author.Rules.{rules}
 use lib.ListN.{length-set}
 use Rattle.text.proofs.Below.{Negated, negated, Plain, plain}
 use Rattle.text.proofs.Written.{written_text, written_both, written_same}
