@@ -17,7 +17,7 @@ pub fn row(name: &str, trace: &[u8], most: usize) -> Option<String> {
     let said: Vec<String> = events.iter().map(said).collect();
     let Sizes { n, k, w, r, b } = sizes;
     Some(format!(
-        "{name} : Row\n{name} =\n    row (sizesAndBoard {n} {k} {w} {r} {b})\n    ({})\n    ({})\n    (end {} {} ∷ [])\n\n\
+        "{name} : Row\n{name} =\n    row (sizes_and_board {n} {k} {w} {r} {b})\n    ({})\n    ({})\n    (end {} {} ∷ [])\n\n\
          {name}-holds : T (computes {name})\nunfolding computes {name}\n{name}-holds = tt\n",
         list(&said),
         list(&replies),
