@@ -1,8 +1,8 @@
 -- How a step moves the collector's record on: "phase, position and closed-cycle number form one record that each step moves on".
 --     closed_on     the record after the close
 --     moved_on      the record after any step that moves it on
---     Movable      what the code asks of a record
---     MovesTo      what the code says of the record after it
+--     Movable       what the code asks of a record
+--     MovesTo       what the code says of the record after it
 -- Assumes nothing.
 use Rattle.std.specs.Prelude.{◌≡◌, ℕ, ◌<◌, ◌≤◌, cond, List, length, ◌==◌}
 use Rattle.rules.specs.declared.Collector.{Collector}

@@ -1,6 +1,6 @@
 -- Laws on entries that the check rests on.
---     times-length      no link stands more often among entries than there are entries
---     times_later       a later part of a list has no more entries for a link
+--     times-length       no link stands more often among entries than there are entries
+--     times_later        a later part of a list has no more entries for a link
 --     old_in_swapped     two lists of entries of which at most one says something of a link
 -- Assumes nothing.
 use Prim.Native.Nat.{ℕ, ◌+◌, ◌-◌, ◌≤◌, ◌<◌}

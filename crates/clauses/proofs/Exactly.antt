@@ -1,5 +1,5 @@
 -- Both tests are true exactly of the tables of a sound pool, so they are one test.
---     is_sound_exactly       `is_sound`
+--     is_sound_exactly      `is_sound`
 --     inspected_exactly     the check as it goes
 --     inspected_is          so the check as it goes is `is_sound`
 -- `is_sound` asks clause by clause: each test tells its clause, and what is asked of what there is holds of every number, since elsewhere stands 0.

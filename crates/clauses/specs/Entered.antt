@@ -1,10 +1,10 @@
 -- What the check notes of each link, entry by entry. There is a place for each of 8,208 links, the most that a pool has; a number past them falls on the
 -- place of another, and then the test has failed.
---     Noted                  what is noted so far
+--     Noted                   what is noted so far
 --     place_of                the place of a link
 --     entered, entered_all    an entry is noted, and a list of entries
---     RoomFor                what was seen can rise by so much and still fits 32 bits
---     once, outstanding      by how much an entry of the history raises what was seen of its link; an entry of a log raises it by 1
+--     RoomFor                 what was seen can rise by so much and still fits 32 bits
+--     once, outstanding       by how much an entry of the history raises what was seen of its link; an entry of a log raises it by 1
 -- Assumes nothing.
 use Rattle.std.specs.Prelude.{ℕ, ◌+◌, ◌≤◌, Bool, cond, ◌&&◌, List, [], ◌∷◌, leb, ltb, get_or, set}
 use Rattle.rules.specs.Pool.{Entry}

@@ -1,10 +1,10 @@
 -- The check as it goes, table by table.
---     phase_fits                    the collector's record, by how many entries the history has
+--     phase_fits                     the collector's record, by how many entries the history has
 --     counted_to, uncleared_from     where it parts the history
---     padded                       "0 in every entry past a list's length"
---     noted_links                   what is noted of each link after the history, the values and the logs
+--     padded                         "0 in every entry past a list's length"
+--     noted_links                    what is noted of each link after the history, the values and the logs
 --     marks_match, counts_match      the changed marks and the counts against what is noted
---     inspected                    all of it
+--     inspected                      all of it
 -- Assumes nothing.
 use Rattle.std.specs.Prelude.{ℕ, suc, ◌*◌, ◌%◌, Bool, true, false, cond, ◌&&◌, eqb, leb, ltb, length, get_or, take, drop, replicate}
 use mathlib.Core.List.{List, [], ◌∷◌, flatten}

@@ -1,9 +1,9 @@
 -- "A sound pool" of tables, as a test, clause by clause in the document's order. That it is true exactly where `SoundTables` holds is proofs/Exactly.antt.
---     every, below     a test of each element of a list, and of each number below another
+--     every, below      a test of each element of a list, and of each number below another
 --     is_packed         unused bits 0
 --     is_marked         "marks and flags 0 or 1", and unused bits 0
 --     is_padded         "0 in every entry past a list's length"
---     is_sound_pool      every clause that a pool of the rules can break
+--     is_sound_pool     every clause that a pool of the rules can break
 --     is_sound          all of it
 -- Assumes nothing.
 use Rattle.std.specs.Prelude.{ℕ, zero, suc, ◌*◌, ◌^◌, Bool, true, not, ◌&&◌, ◌||◌, List, [], ◌∷◌, eqb, leb, ltb, length, get_or, drop}

@@ -1,6 +1,6 @@
 -- How many links count for each record, as the check adds it up: four tallies side by side, 2,080 places from one to the next, with link l in tally l % 4. So two
 -- links in a row never raise the same number, and their numbers lie no multiple of 4,096 bytes apart: a processor would wait for the one before the other.
---     raised               a number of a tally is one more
+--     raised                a number of a tally is one more
 --     tallied, tally_of     the tallies after some links, and a record's number in all four
 -- Assumes nothing.
 use Rattle.std.specs.Prelude.{ℕ, zero, suc, ◌+◌, ◌*◌, ◌%◌, List, get_or, set}

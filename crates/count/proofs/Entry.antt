@@ -1,6 +1,6 @@
 -- What the code of phase 5 rests on, in its tables: the history entry at the position, and the view value of its link.
 --     history_entries     how many entries the history has
---     entry_here_lem          the entry, by its two numbers
+--     entry_here_lem      the entry, by its two numbers
 --     Ready, ready        its numbers are in range, the count that falls is not 0, the look-up has its one entry, and the count that rises has room
 -- Assumes nothing.
 use Prim.Native.Nat.{ℕ, zero, suc, ◌+◌, ◌-◌, ◌*◌, ◌≤◌, ◌<◌, zero-le}

@@ -1,5 +1,5 @@
 -- The step of phase 5 on known tables.
---     counted_in      the tables once an entry is counted
+--     counted_in     the tables once an entry is counted
 --     counted_on     it leaves entries behind the one that it counts
 --     emptied_on     it counts the last, and empties the history
 -- Assumes nothing.

@@ -1,5 +1,5 @@
 -- The look-up in the logs, on their tables.
---     old_or        what was found, or another value where nothing was
+--     old_or       what was found, or another value where nothing was
 --     OneEntry     one entry of these logs is for a link
 -- Assumes nothing.
 use Rattle.std.specs.Prelude.{ℕ, ◌+◌, ◌*◌, ◌≤◌, ◌≡◌, true, length, get_or}

@@ -1,5 +1,5 @@
 -- The sum of some numbers, as far as it has been added up.
---     sum_from             of those from a place on
+--     sum_from            of those from a place on
 --     sum_here, sum_end   one of them, and none
 -- Assumes nothing.
 use Prim.Native.Nat.{ℕ, zero, suc, ◌+◌, ◌≤◌, ◌<◌}

@@ -1,13 +1,13 @@
 -- The closed cycles of a run, and the numbers of each. "A program reads a trace and prints for each closed cycle: `cycle`, its ordinal from 1, `taken` and the
 -- entries moved into the history, `freed` and the records freed, `net` and the sum of all counts at the close less that sum at the opening." (document 02, request 7)
---     opens_at, closes_at          a cycle opens, closes, by the phases before and after an event
---     ClosedCycle                a closed cycle: the pool at its opening, and its events
+--     opens_at, closes_at            a cycle opens, closes, by the phases before and after an event
+--     ClosedCycle                    a closed cycle: the pool at its opening, and its events
 --     up_to_close, is_closed_by      the events of an open cycle up to its close; whether it closes
---     closed_cycles               the closed cycles of a run, in their order
---     taken_by, taken_in           "the entries moved into the history"
---     freed_by, freed_in           "the records freed"
---     sum, count_sum, net_in       "the sum of all counts at the close less that sum at the opening"
---     numbers_of, cycles_of        the numbers of a closed cycle, and of all of a run
+--     closed_cycles                  the closed cycles of a run, in their order
+--     taken_by, taken_in             "the entries moved into the history"
+--     freed_by, freed_in             "the records freed"
+--     sum, count_sum, net_in         "the sum of all counts at the close less that sum at the opening"
+--     numbers_of, cycles_of          the numbers of a closed cycle, and of all of a run
 -- Assumes nothing.
 use Rattle.std.specs.Prelude.{ℕ, ◌+◌, ◌-◌, Bool, false, cond, not, ◌&&◌, ◌||◌, List, [], ◌∷◌, map, eqb, ℤ, pos, ◌-ℤ◌, length}
 use Rattle.rules.specs.declared.Sizes.{Sizes}

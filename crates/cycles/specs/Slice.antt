@@ -3,8 +3,8 @@
 --     put_from       behind so many others
 --     put_at         the three numbers of one, at a place
 --     closed_now     the cycle that closes with an event, if one does, by its phases
---     Puts          cycles are put, and counted
---     Counts        an event is tallied, and the cycle that closes with it is put
+--     Puts           cycles are put, and counted
+--     Counts         an event is tallied, and the cycle that closes with it is put
 -- Assumes nothing.
 use Rattle.std.specs.Prelude.{ℕ, zero, suc, ◌+◌, ◌≡◌, cond, List, [], ◌∷◌, ℤ, pos, length, set}
 use Rattle.rules.specs.declared.Answer.{Answer}

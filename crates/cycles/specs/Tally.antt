@@ -1,12 +1,12 @@
 -- The numbers of a cycle, kept up event by event: what the open cycle has so far, set back where one opens, and done where one closes. proofs/KeptUp.antt shows that
 -- these are the numbers of Cycles.antt.
---     begun                   the numbers at an opening
---     taken_at                 what an event takes, by the lengths of the history before and after it
---     tally_step               the numbers after an event
---     closed_as                those of the cycle that closes
---     tallied, closing        the same of an event on a pool
+--     begun                     the numbers at an opening
+--     taken_at                  what an event takes, by the lengths of the history before and after it
+--     tally_step                the numbers after an event
+--     closed_as                 those of the cycle that closes
+--     tallied, closing          the same of an event on a pool
 --     tally_after, tallies_of   the numbers after a run, and the cycles that close in it
---     Few, Sums, Steps        how large they are; the sum of all counts and the numbers after an event, with that
+--     Few, Sums, Steps          how large they are; the sum of all counts and the numbers after an event, with that
 -- Assumes nothing.
 use Rattle.std.specs.Prelude.{ℕ, ◌+◌, ◌-◌, ◌*◌, ◌≤◌, ◌≡◌, cond, List, [], ◌∷◌, ◌++◌, eqb, length}
 use Rattle.rules.specs.declared.Sizes.{Sizes}

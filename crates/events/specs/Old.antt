@@ -1,9 +1,9 @@
 -- The tables of before document 02's request 9, with a number for each mark, and an event on them: what packed tables stand for.
 --     old_pool_of, old_tables_of     how a pool lies in them
---     old_exact                   which lengths they have
---     old_written, old_event_on     an outcome of the rules, written out in them, and an event on them
---     stands_for, old_form         the old tables that packed ones stand for, and what a call answers and leaves, in their form
---     PackedIn, PackedWords      one kind of mark, and packed tables, with unused bits 0
+--     old_exact                      which lengths they have
+--     old_written, old_event_on      an outcome of the rules, written out in them, and an event on them
+--     stands_for, old_form           the old tables that packed ones stand for, and what a call answers and leaves, in their form
+--     PackedIn, PackedWords          one kind of mark, and packed tables, with unused bits 0
 -- Assumes nothing.
 use Rattle.std.specs.Prelude.{ℕ, ◌+◌, ◌*◌, ◌≡◌, Bool, ◌&&◌, List, eqb, length}
 use Rattle.rules.specs.declared.Sizes.{Sizes}

@@ -1,8 +1,8 @@
 -- A field that is taken: the sizes, an event or the end.
---     decided               what holds of every refusal, and of a field that no test refuses, holds of what the tests decide
---     read_holds            the same of what is read, where it holds of nothing too
+--     decided                   what holds of every refusal, and of a field that no test refuses, holds of what the tests decide
+--     read_holds                the same of what is read, where it holds of nothing too
 --     TakenAt, taken_at_lem     where a field lies that is taken
---     event_step            the step number of an event
+--     event_step                the step number of an event
 -- Assumes nothing.
 use Prim.Native.Nat.{ℕ, ◌+◌, ◌≤◌, ◌<◌}
 use mathlib.Core.Path.{◌≡◌, refl, ap}

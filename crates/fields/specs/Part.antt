@@ -1,5 +1,5 @@
 -- A trace that is read part by part.
---     longest               no field is longer
+--     longest                no field is longer
 --     moved_field, moved     what was read in a part, as it stands in the whole trace
 --     is_taken               a field that is taken
 -- Assumes nothing.

@@ -1,6 +1,6 @@
 -- How many records are free, from the number of ones.
---     free_and_used     those that are free and those that are used are all
---     free_marks_lem        n less the ones, of words whose unused bits are 0
+--     free_and_used      those that are free and those that are used are all
+--     free_marks_lem     n less the ones, of words whose unused bits are 0
 -- Assumes nothing.
 use Prim.Native.Nat.{ℕ, ◌+◌}
 use mathlib.Core.Path.{◌≡◌, refl, sym, ap, ◌∙◌}

@@ -1,6 +1,6 @@
 -- The tables of a fresh pool are 0 throughout: "A fresh pool has every number 0, every record free, every list empty".
 --     zero_tables     twelve tables of 0
---     fresh-zero     the tables of a fresh pool are these
+--     fresh-zero      the tables of a fresh pool are these
 -- Assumes nothing.
 use Prim.Native.Nat.{ℕ, zero, suc, ◌+◌, ◌*◌}
 use mathlib.Core.Path.{◌≡◌, refl, ap, ◌∙◌}

@@ -1,5 +1,5 @@
 -- What the parts of a step do to the tables that they are lent, number by number.
---     unmade     phase 2: the makers, where a worker is
+--     unmade      phase 2: the makers, where a worker is
 --     held_in     phase 4: the records in some registers
 -- Assumes nothing.
 use Rattle.std.specs.Prelude.{ℕ, ◌+◌, true, cond, List, [], ◌∷◌, map, eqb}

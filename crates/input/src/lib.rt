@@ -28,7 +28,7 @@ fn is_passing(got: &io::Result<usize>) -> bool {
 fn read_again<R: Read>(stream: &mut R, buf: &mut [u8]) -> io::Result<usize>
     ensures { ReadsAtMost result buf.new }
 {
-    let mut tries = 1099511627776u64;
+    let mut tries = 1099511627775u64;
     let mut got = stream.read(buf);
     while tries > 0 && is_passing(&got) {
         tries -= 1;

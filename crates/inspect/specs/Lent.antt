@@ -1,8 +1,8 @@
 -- The tables that the parts of the check are lent, put among the others, and what is asked of them.
 --     numbers_on, links_on     tables of which those that are lent are at hand
---     matches                the changed mark of one link against what was seen of it
+--     matches                  the changed mark of one link against what was seen of it
 --     is_once, is_standing     what was seen of a link: at most once among the logs and the uncleared history, and in the history; among the former
---     Fits, LinksToFit       what the part on links asks: exact lengths, list lengths at most S, and a collector's record that fits
+--     Fits, LinksToFit         what the part on links asks: exact lengths, list lengths at most S, and a collector's record that fits
 -- Assumes nothing.
 use Rattle.std.specs.Prelude.{ℕ, ◌%◌, ◌≤◌, ◌≡◌, Bool, true, ◌&&◌, List, eqb, leb, ltb, get_or}
 use Rattle.rules.specs.declared.Sizes.{Sizes}

@@ -1,5 +1,5 @@
 -- How far a merge has come: for each part the events that were taken of it, their numbers from 1 to a step, and their fields in order.
---     open_at                            the place behind the sizes field of a part
+--     open_at                           the place behind the sizes field of a part
 --     Merging                           how far a merge has come
 --     merging_start, merging_takes      before the first step, and one step further
 -- Assumes nothing.

@@ -1,11 +1,11 @@
 -- The joined trace and what the call answers: "The joined trace has the first part's sizes field, then every event of every part once, byte for byte, then its end
 -- field" (request 3 of document 02).
---     sum, end_to_end                       the parts lie end to end in the slice
+--     sum, end_to_end                        the parts lie end to end in the slice
 --     equal_sizes, all_sized, same_sizes     the sizes of the parts
---     all_events                           every event of every part
---     stands, stand_to, field_of            the event with a number
+--     all_events                             every event of every part
+--     stands, stand_to, field_of             the event with a number
 --     in_order, end_field, joined_trace      the joined trace
---     JoinedOn, joined_on                  what the call answers and leaves
+--     JoinedOn, joined_on                    what the call answers and leaves
 -- Assumes nothing.
 use Rattle.std.specs.Prelude.{ℕ, zero, suc, ◌+◌, ◌/◌, ◌%◌, Bool, true, false, cond, not, ◌&&◌, ◌||◌, eqb, ltb, leb, length, drop}
 use mathlib.Core.List.{List, [], ◌∷◌, ◌++◌, flatten, map}

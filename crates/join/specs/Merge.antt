@@ -1,11 +1,11 @@
 -- What the inner functions of the call answer.
---     seen_from, seen_part, seen_parts, end_seen     what the check has seen
+--     seen_from, seen_part, seen_parts, end_seen   what the check has seen
 --     sizes_of, refused_for                        the sizes of a part; why parts are refused that do not merge
---     start_of, end_of, part_of, Opened             where each part lies, and the place behind its sizes field
---     EventHere, Within, NextPart                the part whose next event follows a step
+--     start_of, end_of, part_of, Opened            where each part lies, and the place behind its sizes field
+--     EventHere, Within, NextPart                  the part whose next event follows a step
 --     begins_with, BeginAlike, ends_with, EndAll   the parts begin and end as they should
---     Merges, Measured                           what the merge without writing comes to
---     Ready, WrittenOut                          the joined trace is written
+--     Merges, Measured                             what the merge without writing comes to
+--     Ready, WrittenOut                            the joined trace is written
 -- Assumes nothing.
 use Rattle.std.specs.Prelude.{ℕ, suc, ◌≤◌, ◌<◌, ◌≡◌, Bool, true, false, cond, ◌&&◌, List, ltb, length, get_or, take}
 use Rattle.rules.specs.declared.Sizes.{Sizes}

@@ -1,11 +1,11 @@
 -- One part of a trace: "A part's step numbers strictly rise and its end field carries how many events it holds" (request 3 of document 02). A part is read where it
 -- lies: it starts at a place of the bytes and ends with them, so that every place is "counted in the whole slice".
---     Numbered, Part           an event with its step number, and a part that is whole
---     Told, also               what reading comes to
---     number_at, expected       what document 01's reader is told to expect in a part
---     between                  the bytes of a field
+--     Numbered, Part             an event with its step number, and a part that is whole
+--     Told, also                 what reading comes to
+--     number_at, expected        what document 01's reader is told to expect in a part
+--     between                    the bytes of a field
 --     events_told, part_told     the events of a part behind a place, and a whole part
---     parts_told                all parts, end to end
+--     parts_told                 all parts, end to end
 -- Assumes nothing.
 use Rattle.std.specs.Prelude.{ℕ, zero, suc, ◌+◌, ◌-◌, cond, List, [], ◌∷◌, eqb, ltb, length, take, drop}
 use Rattle.rules.specs.declared.Sizes.{Sizes}

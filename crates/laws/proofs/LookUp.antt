@@ -1,12 +1,12 @@
 -- The look-up in the logs, and the view value.
---     times_logs                      how often a link stands in all logs, where one of them is written
---     look_up_keeps                    what holds of none and of every old value holds of what is looked up
---     look_up_each                     where no link has two entries, each is found
---     look_up_absent                   no log says anything of the link
+--     times_logs                        how often a link stands in all logs, where one of them is written
+--     look_up_keeps                     what holds of none and of every old value holds of what is looked up
+--     look_up_each                      where no link has two entries, each is found
+--     look_up_absent                    no log says anything of the link
 --     look_up_without, look_up_first    a log is emptied that says nothing of the link, or that has its one entry
 --     look_up-more, look_up-added       a log gets an entry more, for another link or for this one
---     view_marked, view_unmarked      the view value, by the mark
---     view_keeps                      what holds of none, of every old value and of the link's value holds of the view value
+--     view_marked, view_unmarked        the view value, by the mark
+--     view_keeps                        what holds of none, of every old value and of the link's value holds of the view value
 -- Only one entry of all logs is for a link: no law here tells which is found where two are. Assumes nothing.
 use Prim.Native.Nat.{ℕ, suc, ◌+◌, ◌≤◌, ◌<◌}
 use mathlib.Core.Path.{◌≡◌, refl, sym, ap, ◌∙◌, subst}

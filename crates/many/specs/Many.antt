@@ -1,7 +1,7 @@
 -- Many events at once on lent tables: what the call answers and leaves, for every byte string, every table and every step number.
 --     rest_at           what stands behind the last event that was done
 --     refused_many      a call that is refused changes nothing
---     done             the events, and what stands behind them
+--     done              the events, and what stands behind them
 --     many_on           the call
 -- Assumes nothing.
 use Rattle.std.specs.Prelude.{ℕ, cond, List, ltb, length}

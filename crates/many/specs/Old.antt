@@ -1,7 +1,7 @@
 -- Many events at once on the tables of before document 02's request 9, with a number for each mark.
 --     old_ran_of      the events that stand one after another
 --     old_many_on     the call
---     old_many       what the call answers and leaves on packed tables, in the old form
+--     old_many        what the call answers and leaves on packed tables, in the old form
 -- Assumes nothing.
 use Rattle.std.specs.Prelude.{ℕ, cond, List}
 use Rattle.rules.specs.declared.Sizes.{Sizes}

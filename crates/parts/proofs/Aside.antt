@@ -1,5 +1,5 @@
 -- The arrays before the first field: "sets aside 256 links, all none, before the first field", and 8 board entries.
---     at_rest             the collector's record of a fresh pool
+--     at_rest            the collector's record of a fresh pool
 --     aside_is_fresh     a fresh pool of any sizes that the program takes lies at their beginnings
 --     aside_known        it is a sound pool
 --     aside_pool         and the pool that they mean

@@ -1,5 +1,5 @@
 -- A replay from a place on is the replay of what stands there, with the places moved.
---     moved_replay       a replay, in a trace of which it is not the beginning
+--     moved_replay      a replay, in a trace of which it is not the beginning
 --     unmoved_replay    it is the beginning
 --     moved_again       what was moved twice
 --     goes-behind       the replay from a place on

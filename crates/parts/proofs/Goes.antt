@@ -1,7 +1,7 @@
 -- A part is taken as the replay of the trace goes: its events are the trace's, and where it has ended the trace's replay ends so.
---     enough                 a part that does not wait has the bytes of a field
+--     enough                   a part that does not wait has the bytes of a field
 --     goes_from, stands_on     how a replay goes on from where a part stands
---     part_goes              the replay of the trace is that of the part, and goes on from where the part stands
+--     part_goes                the replay of the trace is that of the part, and goes on from where the part stands
 -- Assumes nothing.
 use Prim.Native.Nat.{ℕ, suc, ◌+◌, ◌≤◌}
 use mathlib.Core.Path.{◌≡◌, refl, ap, ◌∙◌}

@@ -1,8 +1,8 @@
 -- The lines of a part as text, from the numbers and values that were put into the answers.
---     lines_text_lem      the text of the answers is the text of the lines
---     part_lines      of a part
---     no_lines        of a part with no event
---     starts_same     a buffer starts with the same text
+--     lines_text_lem     the text of the answers is the text of the lines
+--     part_lines         of a part
+--     no_lines           of a part with no event
+--     starts_same        a buffer starts with the same text
 -- Assumes nothing.
 use Prim.Native.Nat.{ℕ, suc, ◌*◌, ◌≤◌}
 use mathlib.Core.Path.{◌≡◌, refl, sym, ap, ◌∙◌, subst}

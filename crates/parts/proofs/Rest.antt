@@ -3,7 +3,7 @@
 --     stretch-steps, ran_steps    the step number of a stretch's last event
 --     rest_events, rest_ended     what a part is, by what may come
 --     left_later                  behind the sizes field a pool lies in the arrays
---     events_taken_lem                the events are done
+--     events_taken_lem            the events are done
 --     ended-taken                 the end field has been read before
 -- Assumes nothing.
 use Prim.Native.Nat.{ℕ, zero, suc, ◌+◌}

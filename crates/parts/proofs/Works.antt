@@ -1,7 +1,7 @@
 -- The events of a trace that arrives in parts: those of a part, and then those that are left where the part stands.
 --     stretch_along       a stretch of a part, and then what comes behind it
 --     stretch-behind      the events from a place on are those of what stands there
---     left_work            the events that are left where a part stands so
+--     left_work           the events that are left where a part stands so
 --     ended-left          behind the end field none is left
 --     rest_works          the events of the trace, behind the sizes field
 -- Assumes nothing.

@@ -2,7 +2,7 @@
 -- next part.
 --     Taken, part_taken     what a part answers and leaves
 --     moved_ending          an ending, in a trace of which the part is not the beginning
---     played               parts one after another, however the bytes arrive
+--     played                parts one after another, however the bytes arrive
 -- Assumes nothing.
 use Rattle.std.specs.Prelude.{ℕ, ◌+◌, Bool, true, false, cond, List, [], ◌∷◌, ◌++◌, drop}
 use Rattle.rules.specs.declared.Sizes.{Sizes}

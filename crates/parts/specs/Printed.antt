@@ -1,6 +1,6 @@
 -- What is printed, as text: of a whole replay, and part by part.
 --     lines_printed, ending_printed, replay_printed     the text of a replay
---     printed                                        what is printed for the parts, one after another
+--     printed                                           what is printed for the parts, one after another
 -- Assumes nothing.
 use Rattle.std.specs.Prelude.{ℕ, ◌+◌, Bool, true, false, List, [], ◌∷◌, ◌++◌, drop}
 use Rattle.rules.specs.declared.Sizes.{Sizes}

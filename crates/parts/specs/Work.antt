@@ -1,5 +1,5 @@
 -- The events of a part of a trace, and the pool that they are done on.
---     Work, no_work                     some events from a pool, and none before there is a pool
+--     Work, no_work                       some events from a pool, and none before there is a pool
 --     rest_work, first_work, part_work    those of a part, as `rest_taken`, `first_taken` and `part_taken` of Part.antt take it
 -- Assumes nothing.
 use Rattle.std.specs.Prelude.{ℕ, Bool, cond, List, []}

@@ -1,7 +1,7 @@
 -- The public calls on the tables of before document 02's request 9, with a number for each mark.
 --     old_fits, old_sound     which sizes and lengths are taken, and which of these tables are of a sound pool
---     old_fresh              the tables made a fresh pool
---     old_called             one event
+--     old_fresh               the tables made a fresh pool
+--     old_called              one event
 -- Assumes nothing.
 use Rattle.std.specs.Prelude.{Bool, cond, ◌&&◌}
 use Rattle.rules.specs.declared.Sizes.{Sizes}

@@ -1,10 +1,10 @@
 -- The invariant of a run from fresh by which what a worker can reach is never freed.
 --     taken_below, scanned_below    the workers whose log was taken, whose registers were scanned in this cycle
---     snoops_in                    the snoop flags that a phase has
---     Used, Held                  a record number is none or of a used record, none or of a held one
---     Kept                        the records that cannot be freed in this cycle
---     Since                       what is known of a record made since its maker's log was taken
---     Named, Phased               the invariant: in every phase, and in a phase at a position
+--     snoops_in                     the snoop flags that a phase has
+--     Used, Held                    a record number is none or of a used record, none or of a held one
+--     Kept                          the records that cannot be freed in this cycle
+--     Since                         what is known of a record made since its maker's log was taken
+--     Named, Phased                 the invariant: in every phase, and in a phase at a position
 -- It belongs to the proof and stands in no statement. Assumes nothing.
 use Prim.Native.Nat.{ℕ, suc, ◌≤◌, ◌<◌}
 use mathlib.Core.Path.{◌≡◌}

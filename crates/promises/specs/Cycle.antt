@@ -2,7 +2,7 @@
 --     Opens, Closes     an event opens a cycle, closes one
 --     ToClose           events that go on until the cycle closes, with the last of them
 --     Cycle             a whole cycle: the event that opens it, and those up to the one that closes it
---     freed_among        a record is freed by one of some events, by their answers
+--     freed_among       a record is freed by one of some events, by their answers
 -- Assumes nothing.
 use Rattle.std.specs.Prelude.{◌≡◌, Bool, false, ◌||◌, List, [], ◌∷◌}
 use Rattle.rules.specs.declared.Sizes.{Sizes}

@@ -1,5 +1,5 @@
 -- The value of a link that the collector last saw. It sees a link where it clears the link's mark, and where it empties the link.
---     cleared        an event turned a link's changed mark off
+--     cleared         an event turned a link's changed mark off
 --     emptied_by      an event emptied a link
 --     seen_after      the value last seen, after an event
 --     last_seen       the value last seen, after a run

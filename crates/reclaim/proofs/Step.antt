@@ -1,8 +1,8 @@
 -- The three outcomes of phase 6, on known tables.
---     closed_tables             the tables after a close
+--     closed_tables            the tables after a close
 --     close_asks               what `advance::onward` asks of the collector's record
 --     found_inside             what the search finds is a record of the pool
---     closed_on_lem                the collect event where the search finds none
+--     closed_on_lem            the collect event where the search finds none
 --     freed_on, emptied_on     and where it finds a record: all of its changed marks are off, or one is on
 -- Assumes nothing.
 use Prim.Native.Nat.{ℕ, zero, suc, ◌≤◌, ◌<◌}

@@ -1,5 +1,5 @@
 -- What phase 6 reads and writes, in the tables that it is lent.
---     waits       the part of the search's test that looks at the record itself
+--     waits        the part of the search's test that looks at the record itself
 --     may_wait     the part of it that looks at its marks
 -- Assumes nothing.
 use Rattle.std.specs.Prelude.{ℕ, Bool, not, ◌&&◌, List, eqb, get_or}

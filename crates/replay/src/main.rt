@@ -7,7 +7,7 @@
 // last part what `put_ending` does. docs/DECISIONS.md says how far a theorem reaches here.
 #![tactic(auto)]
 
-ghost use Rattle.std.specs.Prelude.{◌≤◌, length, IfSome};
+ghost use Rattle.std.specs.Prelude.{◌≤◌, length, IfSome, IfNone};
 ghost use Rattle.input.specs.Input.{Reads};
 
 use fields::{Reader, Stage};
@@ -25,7 +25,8 @@ fn read_more<R: Read>(
     left: usize,
 ) -> Option<usize>
     requires { left ≤ length input.old }
-    ensures { IfSome result (λ n. Reads input.old left n input.new) }
+    ensures read { IfSome result (λ n. Reads input.old left n input.new) }
+    ensures failed { IfNone result (Reads input.old left left input.new) }
 {
     match read_behind(stream, input, left) {
         Ok(n) => Some(n),

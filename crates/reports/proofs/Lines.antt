@@ -1,6 +1,6 @@
 -- The lines of a part's cycles as text, from the numbers that were put into the slice.
---     cycles_text_lem     the text of the numbers is the text of the cycles, and can be printed
---     lines_append    the lines of some cycles, and then of others
+--     cycles_text_lem    the text of the numbers is the text of the cycles, and can be printed
+--     lines_append       the lines of some cycles, and then of others
 -- Assumes nothing.
 use Prim.Native.Nat.{ℕ, suc, ◌+◌, ◌*◌, ◌≤◌}
 use mathlib.Core.Path.{◌≡◌, refl, sym, ap, ◌∙◌, subst}

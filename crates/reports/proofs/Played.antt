@@ -1,6 +1,6 @@
 -- Reporting a part first and the rest later changes nothing, however the bytes arrive.
---     then_told           what a part tells, and then what is left
---     part_told_lem          what the events of a trace tell is what those of a part tell, and then those that are left where the part stands
+--     then_told          what a part tells, and then what is left
+--     part_told_lem      what the events of a trace tell is what those of a part tell, and then those that are left where the part stands
 --     parts_reported     what is printed for the parts
 --     report_is          is the text of the report of the trace
 -- Assumes nothing.

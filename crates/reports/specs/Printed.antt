@@ -1,6 +1,6 @@
 -- What `report` prints, as text: of a whole trace, and part by part.
 --     cycles_printed, report_printed     the text of a report
---     report_parts                      what is printed for the parts, one after another
+--     report_parts                       what is printed for the parts, one after another
 -- Assumes nothing.
 use Rattle.std.specs.Prelude.{ℕ, suc, ◌+◌, Bool, true, false, List, [], ◌∷◌, ◌++◌, length, drop}
 use Rattle.rules.specs.declared.Sizes.{Sizes}

@@ -1,7 +1,7 @@
 -- "Numbers a call may answer" of document 01, and those of document 02: what an answer stands for.
 --     refusal_number    the number of a refusal
---     number, value    the number and the value of an answer
---     Outcome          an answer, and the pool after it
+--     number, value     the number and the value of an answer
+--     Outcome           an answer, and the pool after it
 -- Where a refusal is given exactly is said by the definitions that give it: 3 to 5, 13 and 14 by `refusals` of Outcome, 1 for the sizes by `start` there.
 -- Assumes nothing.
 use Rattle.std.specs.Prelude.{ℕ}

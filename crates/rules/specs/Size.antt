@@ -1,6 +1,6 @@
 -- "Sizes" of document 01.
---     in_range     the sizes are in range
---     links        S, the number of links
+--     in_range      the sizes are in range
+--     links         S, the number of links
 --     link_number   the number of link f of record a: the one way from a record number to a link number
 --     board_number  the number of board entry e: the one way from a board entry to a link number
 -- Assumes nothing.

@@ -1,6 +1,6 @@
 -- The entries of the logs and the history that stand for a link, and the view value: the end of "Collector steps" of document 01.
 --     stands_for    whether an entry is for a link
---     times        how many of some entries are for a link
+--     times         how many of some entries are for a link
 --     old_in        the old value of the first of some entries that is for a link
 --     all_logs      the entries of all logs together
 --     look_up       the look-up in the logs

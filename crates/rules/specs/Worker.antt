@@ -1,9 +1,9 @@
 -- "Worker events" of document 01: what each does where nothing refuses it (the refusals are in Outcome).
 --     first_free, first_above, lowest, chosen       the record that a make takes
---     makes, moves, drops                         these events
---     register_takes, loads, looks                 a register takes what a link holds: of a record, of the board
---     must_log, added, logged, snooped             the parts of a store
---     link_takes, stores, posts                    a link takes what a register holds: of a record, of the board
+--     makes, moves, drops                           these events
+--     register_takes, loads, looks                  a register takes what a link holds: of a record, of the board
+--     must_log, added, logged, snooped              the parts of a store
+--     link_takes, stores, posts                     a link takes what a register holds: of a record, of the board
 -- Assumes nothing.
 use Rattle.std.specs.Prelude.{ℕ, suc, ◌+◌, Bool, true, false, cond, not, List, [], ◌∷◌, ◌++◌, eqb, drop}
 use Rattle.rules.specs.declared.Sizes.{Sizes}

@@ -1,9 +1,9 @@
 -- A change of one part of a pool that keeps the core: a register, the last made number, the records' marks and makers, a snoop flag. None of them touches a link, a
 -- log or a count.
---     core_register     a register takes a record number
---     core_last         the last made number is another
---     core_records      the records get other marks and makers
---     core_snoop        a worker's snoop flag
+--     core_register      a register takes a record number
+--     core_last          the last made number is another
+--     core_records       the records get other marks and makers
+--     core_snoop         a worker's snoop flag
 --     length-held_by     what a scan does to the held marks keeps their length
 -- Assumes nothing.
 use Prim.Native.Nat.{ℕ, ◌≤◌, ◌<◌}

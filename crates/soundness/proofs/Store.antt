@@ -1,8 +1,8 @@
 -- A store keeps the core. It changes no value that is counted: on a link whose mark is off it logs the very value that the link counts for, and on a link
 -- whose mark is on only the present value moves.
 --     view_value_lem, core_value           a link whose mark is on takes another value
---     view_after, core_added           a link whose mark is off is logged and takes another value
---     core_stored                      a store
+--     view_after, core_added               a link whose mark is off is logged and takes another value
+--     core_stored                          a store
 -- Assumes nothing.
 use Prim.Native.Nat.{ℕ, ◌+◌, ◌≤◌, ◌<◌}
 use mathlib.Core.Path.{◌≡◌, refl, sym, ap, ◌∙◌, subst}

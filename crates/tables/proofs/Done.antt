@@ -1,7 +1,7 @@
 -- An event on known tables, from what it does to the pool.
 --     refused_on_lem     an event that is refused changes nothing
 --     done_on_lem        an event that is done, by its outcome and the tables after it
---     collect_is     a collect event is the step of its phase
+--     collect_is         a collect event is the step of its phase
 --     moved_on_lem       a step that moves on changes no table by that
 -- Assumes nothing.
 use Prim.Native.Nat.{ℕ}

@@ -1,10 +1,10 @@
 -- How a pool lies in lent tables, and which pool any tables mean, nonsense included (decisions 1 and 2 of docs/DECISIONS.md). On tables of the right shape each
 -- undoes the other: proofs/RoundTrip.antt.
---     is_on                       a flag that is kept as a number
+--     is_on                      a flag that is kept as a number
 --     cut                        a table in blocks of one size
 --     entries, laid              a list of entries, read from and written to its room
---     pool_of                     the pool that tables mean
---     tables_of                   the tables of a pool
+--     pool_of                    the pool that tables mean
+--     tables_of                  the tables of a pool
 -- Assumes nothing.
 use Rattle.std.specs.Prelude.{ℕ, zero, suc, ◌*◌, Bool, not, eqb, length, get_or, take, drop}
 use mathlib.Core.List.{List, [], ◌∷◌, ◌++◌, map, zip_with, flatten}

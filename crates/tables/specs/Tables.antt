@@ -1,8 +1,8 @@
 -- "All but the collector's own record lives in lent tables of 16-bit numbers whose lengths must be exact" ("Sizes" of document 01), with the marks of records
 -- and links in 64-bit words (document 02, request 9). Which tables there are and
 -- what stands where is decisions 1 and 2 of docs/DECISIONS.md.
---     Tables                   the twelve tables
---     lent                     the tables behind twelve references
+--     Tables                     the twelve tables
+--     lent                       the tables behind twelve references
 --     put_used .. put_lengths    tables of which one is another
 -- Assumes nothing.
 use Rattle.std.specs.Prelude.{ℕ, List}

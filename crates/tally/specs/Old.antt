@@ -1,6 +1,6 @@
 -- The report of a whole trace on the tables of before document 02's request 9, with a number for each mark.
 --     old_report_traced     what the call answers and leaves
---     old_report           what it answers and leaves on packed tables, in the old form
+--     old_report            what it answers and leaves on packed tables, in the old form
 -- Assumes nothing.
 use Rattle.std.specs.Prelude.{ℕ, List, [], ℤ}
 use Rattle.rules.specs.declared.Sizes.{Sizes}

@@ -1,7 +1,7 @@
 -- Events that stand one after another in a trace, done and tallied on lent tables.
 --     Telling, told_of   the numbers of the open cycle, how many have closed, and these in a caller's slice, from a pool
 --     ToldOn, told_on    with what doing the events answers and leaves, on lent tables
---     Tells             that is what is answered and left, and the numbers stay small
+--     Tells              that is what is answered and left, and the numbers stay small
 -- Assumes nothing.
 use Rattle.std.specs.Prelude.{ℕ, ◌+◌, ◌≡◌, List, [], ℤ, length}
 use Rattle.rules.specs.declared.Sizes.{Sizes}

@@ -1,7 +1,7 @@
 -- The lines that are printed.
 --     line_most                 how long the line of an event is at most
 --     lines_next, lines_all     the lines of the events that are left: one and the others, or none
---     last_line_lem                 one of the two last lines, at the buffer's start
+--     last_line_lem             one of the two last lines, at the buffer's start
 -- Assumes nothing.
 use Prim.Native.Nat.{ℕ, suc, ◌+◌, ◌^◌, ◌≤◌, ◌<◌}
 use mathlib.Core.Path.{◌≡◌}

@@ -1,5 +1,5 @@
 -- Lines put into a caller's slice, one after another.
---     put_from               lines put behind so many others
+--     put_from              lines put behind so many others
 --     Puts                  one line more is put
 --     put_here, put_past    where there is room for it, and where there is none
 --     put_all               no line more

@@ -1,6 +1,6 @@
 -- A replay and a stretch, turn by turn. The definitions count turns; each field that is taken has at least one byte, so that with as many turns as bytes are left
 -- it does not show how many there are.
---     Enough, turn, goes_turn           a replay, by what stands at its place
+--     Enough, turn, goes_turn                a replay, by what stands at its place
 --     stretch_turn, stretch_turn_lem         a stretch, by what stands at its place
 -- Assumes nothing.
 use Prim.Native.Nat.{ℕ, zero, suc, ◌-◌, ◌≤◌, ◌<◌}

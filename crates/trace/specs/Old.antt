@@ -1,7 +1,7 @@
 -- A whole trace on the tables of before document 02's request 9, with a number for each mark.
---     old_left_on                  the tables and the collector's record at the end of a replay
+--     old_left_on                   the tables and the collector's record at the end of a replay
 --     old_traced_by, old_traced     what a whole trace answers and leaves
---     old_trace                   what it answers and leaves on packed tables, in the old form
+--     old_trace                     what it answers and leaves on packed tables, in the old form
 -- Assumes nothing.
 use Rattle.std.specs.Prelude.{ℕ, List, length}
 use Rattle.rules.specs.declared.Sizes.{Sizes}

@@ -1,8 +1,8 @@
 -- The words of what is promised of a whole trace.
---     events_of                 the events that stand in a trace, behind its first field
---     Run                      a replay is a run of the rules: its lines, its pool and its ending are those of the trace's events, from the fresh pool
---     Shown                    of any trace: a run, or nothing was touched
---     line_at                   the line of an event
+--     events_of                  the events that stand in a trace, behind its first field
+--     Run                        a replay is a run of the rules: its lines, its pool and its ending are those of the trace's events, from the fresh pool
+--     Shown                      of any trace: a run, or nothing was touched
+--     line_at                    the line of an event
 --     line_frees, lines_free     a record is freed, by the line of an event and by the lines of some
 -- Assumes nothing.
 use Rattle.std.specs.Prelude.{ℕ, ◌≡◌, Bool, true, false, ◌||◌, List, [], ◌∷◌, eqb, get_or}

@@ -1,5 +1,5 @@
 -- How a trace stands behind some events, of which a part has been read.
---     waits                a field may not have been read whole
+--     waits                 a field may not have been read whole
 --     stood, stand_behind   what comes behind the events: the end and nothing more, or a refusal; or more has to be read
 --     ending_of             how a trace ends that stands so behind its last byte
 -- Assumes nothing.

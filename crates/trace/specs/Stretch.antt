@@ -1,8 +1,8 @@
 -- Events that stand one after another in a trace, done on lent tables.
 --     Stretch, stretch      the events from a place on, up to the first field that is none
---     lines_behind           their lines
+--     lines_behind          their lines
 --     put                   their numbers and values, in a caller's slice
---     ran_of, ran_on          what doing them answers and leaves, from a pool and on lent tables
+--     ran_of, ran_on        what doing them answers and leaves, from a pool and on lent tables
 -- Assumes nothing.
 use Rattle.std.specs.Prelude.{ℕ, zero, suc, List, [], ◌∷◌, length}
 use Rattle.rules.specs.declared.Sizes.{Sizes}

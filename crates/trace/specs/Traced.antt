@@ -1,8 +1,8 @@
 -- A whole trace on lent tables: what the call answers and leaves, for every byte string and every table.
 --     left_on             the tables and the collector's record at the end of a replay
 --     Traced, traced_by   all that the call answers and leaves, by a replay
---     traced             by the replay of the trace
---     sized              by what comes behind a sizes field
+--     traced              by the replay of the trace
+--     sized               by what comes behind a sizes field
 -- Assumes nothing.
 use Rattle.std.specs.Prelude.{ℕ, suc, cond, List, length}
 use Rattle.rules.specs.declared.Sizes.{Sizes}

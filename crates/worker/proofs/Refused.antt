@@ -1,5 +1,5 @@
 -- The worker events that are refused, on known tables.
---     no_such_lem, no_such_register             "3 means no such worker. Refusals: 13 register, 14 link, in the order 3, 13, 14 where 3 stood"
+--     no_such_lem, no_such_register         "3 means no such worker. Refusals: 13 register, 14 link, in the order 3, 13, 14 where 3 stood"
 --     load_holds-none, store_holds-none     "4: load or store through a register that holds none"
 --     make_none_free                        "5: make, and no record is free"
 --     unrefused                             an event that no test refuses does what it does

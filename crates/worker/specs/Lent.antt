@@ -1,8 +1,8 @@
 -- The tables that a worker event is lent, put among the others; and what a store or a post does to tables, with the two parts of it that may or may not happen.
 --     makes_on, loads_on, stores_on, logs_on     tables of which those that are lent are at hand
---     RoomToLog, logged_on                    "(link, its value) is added to w's log and the mark goes on", where the mark is off
---     held_after                              "if w snoops and the value is not none, that record is marked held"
---     link_taken                              a link takes what a register holds: both, and the value
+--     RoomToLog, logged_on                       "(link, its value) is added to w's log and the mark goes on", where the mark is off
+--     held_after                                 "if w snoops and the value is not none, that record is marked held"
+--     link_taken                                 a link takes what a register holds: both, and the value
 -- Assumes nothing.
 use Rattle.std.specs.Prelude.{ℕ, ◌+◌, ◌*◌, ◌<◌, ◌≡◌, Bool, true, false, cond, List, length, get_or, set}
 use Rattle.rules.specs.declared.Sizes.{Sizes}

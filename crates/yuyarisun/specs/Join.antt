@@ -1,6 +1,6 @@
 -- What the exported call that joins parts answers and leaves, in numbers.
 --     joined_number, joined_length, joined_place     what joining comes to
---     JoinNumbers, join_numbers                    the call
+--     JoinNumbers, join_numbers                      the call
 -- Assumes nothing.
 use Rattle.std.specs.Prelude.{ℕ, List}
 use Rattle.rules.specs.Reply.{refusal_number}
