@@ -1,24 +1,22 @@
 -- The phase after a phase, by how many entries the history has.
---     after_skipping     a phase is skipped
---     after-entries, after_others     none is
+--     after_skipped     a phase is skipped
+--     after_others      none is
 -- Assumes nothing.
-use Rattle.std.proofs.Common.{◌≡◌, ℕ, suc, true, cond, ◌||◌, eqb, List, [], ◌∷◌, length, sym, refl, ap, ◌∙◌, arith, ne_eqb}
+use Rattle.std.proofs.Common.{◌≡◌, ◌⊎◌, inl, inr, ℕ, suc, ◌+◌, cond, ◌||◌, List, [], ◌∷◌, length, sym, refl, subst, ◌∙◌, add-one, arith, ne_eqb}
 use Rattle.rules.specs.Pool.{Entry}
 use Rattle.rules.specs.Collect.{phase_after}
 
 -- "Phases 3 and 5 are skipped when the history is empty."
-pub after_skipping : (k phase : ℕ) (history : List Entry) → (eqb (suc k) 3 || eqb (suc k) 5) ≡ true → length history ≡ 0 → phase ≡ k → suc (suc k) ≡ phase_after phase history
+pub after_skipped : (phase : ℕ) (history : List Entry) → length history ≡ 0 → (phase ≡ 2) ⊎ (phase ≡ 4) → phase + 2 ≡ phase_after phase history
 unfolding phase_after
-after_skipping k phase [] skips h e = ap (λ b. cond b (suc (suc k)) (suc k)) (sym skips) ∙ ap (λ (n : ℕ). phase_after n []) (sym e)
-after_skipping k phase (x ∷ history) skips h e = absurd (omega arith)
+after_skipped phase [] h (inl e) = subst (λ (n : ℕ). n + 2 ≡ phase_after n []) (sym e) refl
+after_skipped phase [] h (inr e) = subst (λ (n : ℕ). n + 2 ≡ phase_after n []) (sym e) refl
+after_skipped phase (x ∷ history) h e = absurd (omega arith)
 
-pub after-entries : (phase : ℕ) (history : List Entry) → (length history ≡ 0 → ⊥) → suc phase ≡ phase_after phase history
+pub after_others : (phase : ℕ) (history : List Entry) → (length history ≡ 0 → (phase ≡ 2) ⊎ (phase ≡ 4) → ⊥) → phase + 1 ≡ phase_after phase history
 unfolding phase_after
-after-entries phase [] h = absurd (h refl)
-after-entries phase (x ∷ history) h = refl
-
-pub after_others : (phase : ℕ) (history : List Entry) → (suc phase ≡ 3 → ⊥) → (suc phase ≡ 5 → ⊥) → suc phase ≡ phase_after phase history
-unfolding phase_after
-after_others phase [] three five =
-    sym ((λ j. cond (ne_eqb (suc phase) 3 three j || ne_eqb (suc phase) 5 five j) (suc (suc phase)) (suc phase)))
-after_others phase (x ∷ history) three five = refl
+after_others phase [] other =
+    let three : suc phase ≡ 3 → ⊥ = λ e. other refl (inl (omega arith)) in
+    let five : suc phase ≡ 5 → ⊥ = λ e. other refl (inr (omega arith)) in
+    add-one phase ∙ sym (λ j. cond (ne_eqb (suc phase) 3 three j || ne_eqb (suc phase) 5 five j) (suc (suc phase)) (suc phase))
+after_others phase (x ∷ history) other = add-one phase

@@ -18,23 +18,17 @@ fn phase_after(phase: u16, entries: u16) -> u16
     requires { phase ≤ 5 }
     ensures { (history : List Entry) → length history ≡ entries → result ≡ phase_after phase history }
 {
-    let next = phase + 1;
-    if entries == 0 {
-        if next == 3 {
-            return 4;
-        }
-        if next == 5 {
-            return 6;
-        }
+    match (phase, entries) {
+        (2 | 4, 0) => phase + 2,
+        _ => phase + 1,
     }
-    next
 }
 
 // "The closed-cycle number has 16 bits: after 65,535 it goes on at 0."
 fn next_closed(closed: u16) -> u16
     ensures { result ≡ next_closed closed }
 {
-    std::num::wrapping_add_u16(closed, 1)
+    closed.wrapping_add(1)
 }
 
 // "The phase changes within the step that did the last position, and the position returns to 0." The phase has so many positions, phase 0 has one. Phase 6 is left
@@ -43,31 +37,29 @@ fn moved_on(c: Collector, positions: u16, entries: u16) -> Collector
     requires { Movable c }
     ensures { MovesTo positions entries c result }
 {
-    let phase = c.phase;
-    let closed = c.closed;
-    if phase == 6 {
+    if c.phase == 6 {
         return Collector {
             phase: 0,
             position: 0,
-            closed: next_closed(closed),
+            closed: next_closed(c.closed),
         };
     }
     let next = c.position + 1;
     if next < positions {
         return Collector {
-            phase,
             position: next,
-            closed,
+            ..c
         };
     }
     Collector {
-        phase: phase_after(phase, entries),
+        phase: phase_after(c.phase, entries),
         position: 0,
-        closed,
+        ..c
     }
 }
 
-// The record that is lent moves on.
+// The record that is lent moves on. It is lent and not handed over, and the work is done by value: document 01 asks for a record "lent by &mut to a thin advance
+// function" (docs/FORMS.md).
 fn move_on(c: &mut Collector, positions: u16, entries: u16)
     requires { Movable c.old }
     ensures { MovesTo positions entries c.old c.new }

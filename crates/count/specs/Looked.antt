@@ -1,21 +1,13 @@
 -- The look-up in the logs, on their tables.
---     old_or       what was found, or another value where nothing was
 --     OneEntry     one entry of these logs is for a link
 -- Assumes nothing.
 use Rattle.std.specs.Prelude.{ℕ, ◌+◌, ◌*◌, ◌≤◌, ◌≡◌, true, length, get_or}
 use mathlib.Core.List.{List, flatten}
 use Rattle.rules.specs.declared.Sizes.{Sizes}
-use Rattle.rules.specs.declared.RecordNumber.{RecordNumber}
 use Rattle.rules.specs.declared.LinkNumber.{LinkNumber}
 use Rattle.rules.specs.Size.{in_range, links}
 use Rattle.rules.specs.View.{times}
 use Rattle.tables.specs.Lie.{room, logs_in}
-use Rattle.count.specs.declared.Found.{Found}
-use Rattle.count.specs.declared.Found.TheVariants.{Old, Nothing}
-
-abbrev pub old_or : Found → RecordNumber → RecordNumber
-old_or (Old a) otherwise = a
-old_or Nothing otherwise = otherwise
 
 pub record OneEntry (s : Sizes) (table ns : List ℕ) (l : LinkNumber) : Type 0 where
   pub sizes : in_range s ≡ true

@@ -1,9 +1,13 @@
 // Phase 5 of the collector, on the tables that it touches, of a pool that is known to be sound. All of it is inner (decision 4 of docs/DECISIONS.md).
-//     counts                             the step; each function has the name of its definition in rules/specs
-//     view_value, look_up, find          the view value of a link, and the look-up in the logs
+//     counts                     the step
+//     view_value, look_up        the view value of a link, and the look-up in the logs
+// Each of these has the name of its definition in rules/specs/Collect.antt and View.antt. One helps, whose definition there has another name, `old_in`:
+//     find                       what one log says of a link
+// Each function is lent only the tables that it touches, each as a parameter of its own: a rule of this project (decision 26), so that its contract says of no other table
+// anything.
 #![tactic(auto)]
 
-ghost use Rattle.std.specs.Prelude.{◌≡◌, true, ℕ, ◌*◌, ◌≤◌, ◌<◌, length};
+ghost use Rattle.std.specs.Prelude.{◌≡◌, true, ℕ, ◌*◌, ◌≤◌, ◌<◌, length, unwrap_or};
 ghost use Rattle.rules.specs.Size.{links};
 ghost use Rattle.rules.specs.View.{times, old_in, look_up, view_value};
 ghost use Rattle.tables.specs.Tables.{Tables};
@@ -11,55 +15,42 @@ ghost use Rattle.tables.specs.Bits.{word_count, mark_at};
 ghost use Rattle.tables.specs.Lie.{entries, logs_in, pool_of};
 ghost use Rattle.tables.specs.Event.{InPhase, Steps};
 ghost use Rattle.count.specs.Lent.{views_on, counts_on};
-ghost use Rattle.count.specs.Looked.{old_or, OneEntry};
+ghost use Rattle.count.specs.Looked.{OneEntry};
 
 use advance::{onward, stepped};
 use rules::{Answered, Collector, LinkNumber, RecordNumber, Sizes};
 use tables::count::{falls, rises};
-use tables::list::clear;
 use tables::mark::is_on;
-use tables::place::{log_place, wide};
-
-// What a log says of a link.
-#[derive(Clone, Copy)]
-enum Found {
-    Old(RecordNumber),
-    Nothing,
-}
+use tables::place::log_place;
 
 // What a log, entry by entry, says of a link that it says one thing of, or nothing: "newest entry to oldest" (request 6 of document 02).
-fn find(log: &[u16], l: LinkNumber) -> Found
+fn find(log: &[u16], l: LinkNumber) -> Option<RecordNumber>
     requires { (n : ℕ) → length log.now ≡ n * 2 → times l (entries n log.now) ≤ 1 }
-    ensures { (n : ℕ) → length log.now ≡ n * 2 → (a : RecordNumber) → old_in l (entries n log.now) a ≡ old_or result a }
+    ensures { (n : ℕ) → length log.now ≡ n * 2 → (a : RecordNumber) → old_in l (entries n log.now) a ≡ unwrap_or result a }
 {
-    let mut i = log.len();
-    while 1 < i {
-        i -= 2;
-        if log[i] == l.0 {
-            return Found::Old(RecordNumber(log[i + 1]));
-        }
-    }
-    Found::Nothing
+    let (entries, _) = log.as_chunks::<2>();
+    entries
+        .iter()
+        .rfind(|[link, _]| *link == l.0)
+        .map(|[_, old]| RecordNumber(*old))
 }
 
 // The look-up of a changed link in the logs: "the old value in the one log entry for it". In which order it looks is its own affair, for there is one entry: "from the
-// last worker to the first" (request 6 of document 02).
+// last worker to the first" (request 6 of document 02). With `find_map` the part of a log to be looked through would be cut out in the closure, and the one that is there be asked
+// for behind it: no plainer.
 fn look_up(s: Sizes, logs: &[u16], lengths: &[u16], l: LinkNumber) -> RecordNumber
     requires { OneEntry s logs.now lengths.now l }
     ensures { result ≡ look_up l (logs_in s logs.now lengths.now) }
 {
-    let mut w = s.w;
-    while 0 < w {
-        w -= 1;
+    for w in (0..s.w).rev() {
         let from = log_place(s, w);
-        let n = lengths[wide(w)];
-        let to = from + wide(n) * 2;
-        let found = find(&logs[from..to], l);
-        if let Found::Old(a) = found {
+        let n = lengths[usize::from(w)];
+        let to = from + usize::from(n) * 2;
+        if let Some(a) = find(&logs[from..to], l) {
             return a;
         }
     }
-    RecordNumber(0)
+    unreachable!()
 }
 
 // "The view value of a link is its value if its changed mark is off, else the old value in the one log entry for it."
@@ -74,7 +65,7 @@ fn view_value(
     requires { (l.0 < links s) × (length values.now ≡ links s) × (length changed.now ≡ word_count (links s)) × (mark_at changed.now l.0 ≡ true → OneEntry s logs.now lengths.now l) }
     ensures { (t : Tables) (c : Collector) → result ≡ view_value (pool_of s (views_on values.now changed.now logs.now lengths.now t) c) l }
 {
-    let link = wide(l.0);
+    let link = usize::from(l.0);
     if is_on(changed, link) {
         return look_up(s, logs, lengths, l);
     }
@@ -98,15 +89,14 @@ pub fn counts(
     ensures { Steps 5 s (counts_on counts.old candidates.old values.now changed.now logs.now history.old lengths.old) c result
         (counts_on counts.new candidates.new values.now changed.now logs.now history.new lengths.new) }
 {
-    let last = wide(s.w);
+    let last = usize::from(s.w);
     let n = lengths[last];
-    let at = wide(c.position) * 2;
-    let l = LinkNumber(history[at]);
-    let old = RecordNumber(history[at + 1]);
-    falls(counts, candidates, old);
-    rises(counts, view_value(s, values, changed, logs, lengths, l));
+    let [link, old] = history.as_chunks::<2>().0[usize::from(c.position)];
+    falls(counts, candidates, RecordNumber(old));
+    let view = view_value(s, values, changed, logs, lengths, LinkNumber(link));
+    rises(counts, view);
     if n <= c.position + 1 {
-        clear(&mut history[..wide(n) * 2]);
+        history[..usize::from(n) * 2].fill(0);
         lengths[last] = 0;
         return stepped(onward(c, n, 0));
     }

@@ -1,6 +1,5 @@
 -- What is proved of the cycles of a run.
 --     WholeCase     document 01's whole case, computed by the definitions
---     Sum           the sum of some numbers
 --     Stepped       the numbers of the open cycle after an event
 --     Placed        cycles put into a slice
 --     Small         how far from nought the net of a cycle can be
@@ -9,7 +8,6 @@
 --     Leaves        what an event leaves of what the report looks at
 --     Net           the net is what the collector's steps did to the counts
 pub mod WholeCase
-pub mod Sum
 pub mod Stepped
 pub mod Placed
 pub mod Small

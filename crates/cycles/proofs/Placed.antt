@@ -2,21 +2,18 @@
 --     put-none                         no cycle more
 --     put_append                       some, and then others
 --     long_put                         the slice keeps its length
---     closed_here, closed_past, closed_none     the cycle that closes with an event: there is room for it, there is none, and none closes
+--     put_here, put_past, puts_none    one cycle that there is room for, one that there is none for, and no cycle
 -- Assumes nothing.
 use Prim.Native.Nat.{ℕ, zero, suc, ◌+◌, ◌*◌, ◌/◌, ◌≤◌, ◌<◌}
 use mathlib.Core.Path.{◌≡◌, refl, sym, ap, ◌∙◌}
-use mathlib.Core.Bool.{Bool, true, false, cond}
 use mathlib.Core.List.{List, [], ◌∷◌, ◌++◌}
 use native.Mathlib.Omega.{arith}
 use native.Mathlib.Nat.{add-zero}
 use lib.IntN.{ℤ, pos}
-use lib.ListN.{length, set}
+use lib.ListN.{length}
+use borrow.Rule.Slice.PartMut.{put_mid}
 use Rattle.cycles.specs.declared.Cycle.{Cycle}
-use Rattle.cycles.specs.declared.Tally.{Tally}
-use Rattle.cycles.specs.Cycles.{closes_at}
-use Rattle.cycles.specs.Tally.{closed_as}
-use Rattle.cycles.specs.Slice.{put_cycles, put_from, put_at, closed_now, Puts}
+use Rattle.cycles.specs.Slice.{put_cycles, put_from, Puts}
 
 pub put-none : (i : ℕ) (room : List ℤ) → put_from i room [] ≡ room
 unfolding put_from put_cycles
@@ -69,7 +66,7 @@ thrice_is zero = refl
 thrice_is (suc i) = omega (arith, thrice_is i)
 
 has_room : (i : ℕ) (room : List ℤ) (c : Cycle) → suc (suc (thrice i)) < length room
-    → set (set (set room (thrice i) (pos c.taken)) (suc (thrice i)) (pos c.freed)) (suc (suc (thrice i))) c.net ≡ put_from i room (c ∷ [])
+    → put_mid (thrice i) 3 room (pos c.taken ∷ pos c.freed ∷ c.net ∷ []) ≡ put_from i room (c ∷ [])
 unfolding put_from put_cycles thrice
 has_room zero [] c here = absurd (omega arith)
 has_room zero (x ∷ []) c here = absurd (omega arith)
@@ -91,35 +88,18 @@ no_room (suc i) (x ∷ []) c past = refl
 no_room (suc i) (x ∷ y ∷ []) c past = refl
 no_room (suc i) (x ∷ y ∷ z ∷ room) c past = ap (λ (xs : List ℤ). x ∷ y ∷ z ∷ xs) (no_room i room c (omega arith))
 
-at_place : (i : ℕ) (room : List ℤ) (c : Cycle) → i < length room / 3 → put_at room (i * 3) c ≡ put_from i room (c ∷ [])
-at_place i room c here =
-    let second : i * 3 + 1 ≡ suc (thrice i) = omega (arith, thrice_is i) in
-    let third : i * 3 + 2 ≡ suc (suc (thrice i)) = omega (arith, thrice_is i) in
-    (λ j. set (set (set room (sym (thrice_is i) j) (pos c.taken)) (second j) (pos c.freed)) (third j) c.net)
-    ∙ has_room i room c (omega (arith, thrice_is i))
+-- there is room for one cycle more, or there is none
+pub put_here : (i : ℕ) {k : ℕ} (room : List ℤ) (c : Cycle) → k ≡ 3 → i < length room / 3 → Puts i room (c ∷ []) (i + 1) (put_mid (i * 3) k room (pos c.taken ∷ pos c.freed ∷ c.net ∷ []))
+put_here i room c size here =
+    record {
+      count = refl;
+      numbers =
+          (λ j. put_mid (sym (thrice_is i) j) (size j) room (pos c.taken ∷ pos c.freed ∷ c.net ∷ []))
+          ∙ has_room i room c (omega (arith, thrice_is i));
+    }
 
-module _ (i : ℕ) (room : List ℤ) (t : Tally) (sum before after : ℕ) where
-  -- by the test of a close
-  closed_is : (b : Bool) → closes_at before after ≡ b → closed_now t sum before after ≡ cond b (closed_as t sum ∷ []) []
-  closed_is b close = ap (λ (b : Bool). cond b (closed_as t sum ∷ []) []) close
+pub put_past : (i : ℕ) (room : List ℤ) (c : Cycle) → length room / 3 ≤ i → Puts i room (c ∷ []) (i + 1) room
+put_past i room c past = record { count = refl; numbers = no_room i room c (omega arith) }
 
-  module _ (close : closes_at before after ≡ true) where
-    put_closed : {filled : List ℤ} → filled ≡ put_from i room (closed_as t sum ∷ []) → Puts i room (closed_now t sum before after) (i + 1) filled
-    put_closed put =
-        record {
-          count = ap (λ (xs : List Cycle). i + length xs) (sym (closed_is true close));
-          numbers = put ∙ ap (put_from i room) (sym (closed_is true close));
-        }
-
-    pub closed_here : {filled : List ℤ} {c : Cycle} → i < length room / 3 → c ≡ closed_as t sum → filled ≡ put_at room (i * 3) c → Puts i room (closed_now t sum before after) (i + 1) filled
-    closed_here here cycle put = put_closed (put ∙ ap (put_at room (i * 3)) cycle ∙ at_place i room (closed_as t sum) here)
-
-    pub closed_past : {filled : List ℤ} → length room / 3 ≤ i → filled ≡ room → Puts i room (closed_now t sum before after) (i + 1) filled
-    closed_past past same = put_closed (same ∙ no_room i room (closed_as t sum) (omega arith))
-
-  pub closed_none : closes_at before after ≡ false → Puts i room (closed_now t sum before after) i room
-  closed_none no-close =
-      record {
-        count = sym (add-zero i) ∙ ap (λ (xs : List Cycle). i + length xs) (sym (closed_is false no-close));
-        numbers = sym (put-none i room) ∙ ap (put_from i room) (sym (closed_is false no-close));
-      }
+pub puts_none : (i : ℕ) (room : List ℤ) → Puts i room [] i room
+puts_none i room = record { count = sym (add-zero i); numbers = sym (put-none i room) }

@@ -1,15 +1,13 @@
 -- How far from nought the net of a cycle can be.
---     sum_most                  the sum of some numbers
 --     count_sum_most            the counts of a sound pool
 --     SmallNet, tallies_small   the cycles of a run from a sound pool
 -- Assumes nothing.
-use Prim.Native.Nat.{ℕ, suc, ◌*◌, ◌≤◌}
+use Prim.Native.Nat.{suc, ◌≤◌}
 use mathlib.Core.Path.{◌≡◌}
 use mathlib.Core.Bool.{Bool, true, false, cond}
 use mathlib.Core.List.{List, [], ◌∷◌}
 use native.Mathlib.Omega.{arith}
 use native.Mathlib.Nat.{mul-le-mul_right}
-use lib.ListN.{length}
 use lib.Signed.{mag}
 use Rattle.rules.specs.declared.Sizes.{Sizes}
 use Rattle.rules.specs.declared.Event.{Event}
@@ -17,20 +15,18 @@ use Rattle.rules.specs.Size.{in_range}
 use Rattle.rules.specs.Pool.{Pool}
 use Rattle.rules.specs.Outcome.{outcome}
 use Rattle.rules.specs.Sound.{Each, Sound}
-use Rattle.laws.proofs.Lists.{Each-places, Each-append}
+use Rattle.std.specs.List.{All}
+use Rattle.std.proofs.lemmas.List.Elements.{All-from_get_or}
+use Rattle.std.proofs.lemmas.List.Sums.{sum_by-le}
+use Rattle.laws.proofs.Lists.{Each-append}
 use Rattle.laws.proofs.Number.{bounds, links_most}
 use Rattle.soundness.proofs.Known.{count_most}
 use Rattle.soundness.proofs.Kept.{event_keeps_sound}
 use Rattle.cycles.specs.declared.Cycle.{Cycle}
 use Rattle.cycles.specs.declared.Tally.{Tally}
-use Rattle.cycles.specs.Cycles.{opens_at, closes_at, sum, count_sum}
+use Rattle.cycles.specs.Cycles.{opens_at, closes_at, count_sum}
 use Rattle.cycles.specs.Tally.{begun, tally_step, closed_as, tallied, closing, tallies_of}
 use Rattle.cycles.proofs.Stepped.{less_most}
-
-pub sum_most : (most : ℕ) (xs : List ℕ) → Each (λ x. x ≤ most) xs → sum xs ≤ length xs * most
-unfolding sum
-sum_most most [] few = omega arith
-sum_most most (x ∷ xs) few = omega (arith, few.0, sum_most most xs few.1)
 
 -- a cycle whose net has 31 bits
 abbrev pub SmallNet : Cycle → Type 0
@@ -40,10 +36,10 @@ module _ (s : Sizes) (range : in_range s ≡ true) where
   pub count_sum_most : (p : Pool) → Sound s p → count_sum p ≤ 67107840
   count_sum_most p sound =
       let counts = p.records.count in
-      let each : Each (λ x. x ≤ 8208) counts =
-      Each-places (λ x. x ≤ 8208) 0 counts
+      let each : All (λ x. x ≤ 8208) counts =
+      All-from_get_or (λ x. x ≤ 8208) counts 0
       (λ i inside. omega (arith, count_most sound (record { 0 = suc i }) (omega arith) (omega (arith, sound.shaped.records.count)), links_most s range)) in
-      omega (arith, sum_most 8208 counts each, sound.shaped.records.count, mul-le-mul_right 8208 (bounds s range).n_most)
+      omega (arith, sum_by-le (λ x. x) 8208 counts each, sound.shaped.records.count, mul-le-mul_right 8208 (bounds s range).n_most)
 
   -- the sum at the opening stays, or is that of the pool
   opening_small : (p : Pool) → Sound s p → (t : Tally) (e : Event) → t.opening ≤ 67107840 → (tallied s p t e).opening ≤ 67107840

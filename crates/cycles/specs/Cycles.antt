@@ -6,10 +6,11 @@
 --     closed_cycles                  the closed cycles of a run, in their order
 --     taken_by, taken_in             "the entries moved into the history"
 --     freed_by, freed_in             "the records freed"
---     sum, count_sum, net_in         "the sum of all counts at the close less that sum at the opening"
+--     count_sum, net_in              "the sum of all counts at the close less that sum at the opening"
 --     numbers_of, cycles_of          the numbers of a closed cycle, and of all of a run
 -- Assumes nothing.
 use Rattle.std.specs.Prelude.{ℕ, ◌+◌, ◌-◌, Bool, false, cond, not, ◌&&◌, ◌||◌, List, [], ◌∷◌, map, eqb, ℤ, pos, ◌-ℤ◌, length}
+pub use Rattle.std.specs.Prelude.{sum}
 use Rattle.rules.specs.declared.Sizes.{Sizes}
 use Rattle.rules.specs.declared.Event.{Event}
 use Rattle.rules.specs.declared.Answer.{Answer}
@@ -87,10 +88,6 @@ freed_in s p [] = 0
 freed_in s p (e ∷ events) = let o : Outcome = outcome s p e in freed_by o.answer + freed_in s o.pool events
 
 -- ---- the counts
-
-unfoldable pub sum : List ℕ → ℕ
-sum [] = 0
-sum (n ∷ numbers) = n + sum numbers
 
 -- "the sum of all counts"
 abbrev pub count_sum : Pool → ℕ

@@ -6,7 +6,8 @@
 --     closed_as                 those of the cycle that closes
 --     tallied, closing          the same of an event on a pool
 --     tally_after, tallies_of   the numbers after a run, and the cycles that close in it
---     Few, Sums, Steps          how large they are; the sum of all counts and the numbers after an event, with that
+--     Few, Countable            how large they are, and so many counts that their sum fits
+--     Steps                     the numbers after an event, and how large they are
 -- Assumes nothing.
 use Rattle.std.specs.Prelude.{ℕ, ◌+◌, ◌-◌, ◌*◌, ◌≤◌, ◌≡◌, cond, List, [], ◌∷◌, ◌++◌, eqb, length}
 use Rattle.rules.specs.declared.Sizes.{Sizes}
@@ -17,6 +18,7 @@ use Rattle.rules.specs.Reply.{Outcome}
 use Rattle.rules.specs.Outcome.{outcome}
 use Rattle.cycles.specs.declared.Cycle.{Cycle}
 use Rattle.cycles.specs.declared.Tally.{Tally}
+use Rattle.cycles.specs.declared.turn.Turn.{Turn}
 use Rattle.cycles.specs.Cycles.{opens_at, closes_at, freed_by, sum, count_sum, less}
 
 -- ---- by numbers
@@ -69,10 +71,11 @@ pub record Few (step : ℕ) (t : Tally) : Type 0 where
   pub taken : t.taken ≤ step * 65536
   pub freed : t.freed ≤ step * 65536
 
-pub record Sums (counts : List ℕ) (x : ℕ) : Type 0 where
-  pub all : x ≡ sum counts
-  pub few : x ≤ 67107840
+-- as many counts as a pool has at most
+abbrev pub Countable : ℕ → Tally → List ℕ → Type 0
+Countable step t counts = Few step t × (length counts ≤ 1024)
 
-pub record Steps (t : Tally) (sum before after had has : ℕ) (answer : Answer) (x : Tally) : Type 0 where
-  pub same : x ≡ tally_step t sum before after had has answer
+-- the numbers after an event, by the sum of all counts
+pub record Steps (t : Tally) (sum : ℕ) (e : Turn) (x : Tally) : Type 0 where
+  pub same : x ≡ tally_step t sum e.before e.after e.had e.has e.answer
   pub few : (step : ℕ) → Few step t → Few (step + 1) x

@@ -5,7 +5,7 @@
 #![tactic(auto)]
 
 ghost use Rattle.std.specs.Prelude.{◌≡◌};
-ghost use Rattle.tables.specs.Tables.{lent};
+ghost use Rattle.tables.specs.Lent.{contents, SameTables};
 ghost use Rattle.tables.specs.Known.{Known};
 ghost use Rattle.tables.specs.Event.{event_on};
 
@@ -13,101 +13,91 @@ use count::counts as counts_step;
 use gather::{clears, opens, scans, snoops as snoops_step, takes};
 use reclaim::reclaims;
 use rules::{Answered, Collector, Event, Sizes};
+use tables::lent::LentTables;
 use worker::{drops, loads, looks, makes, moves, posts, stores};
 
-// A collect event on a pool that is known to be sound: "One collect event does one of these".
-fn collects(
-    s: Sizes,
-    used: &mut [u64],
-    counts: &mut [u16],
-    held: &mut [u64],
-    candidates: &mut [u64],
-    makers: &mut [u16],
-    values: &mut [u16],
-    changed: &mut [u64],
-    registers: &mut [u16],
-    snoops: &mut [u16],
-    logs: &mut [u16],
-    history: &mut [u16],
-    lengths: &mut [u16],
-    c: Collector,
-) -> Answered
-    requires { Known s (lent used.old counts.old held.old candidates.old makers.old values.old changed.old registers.old snoops.old logs.old history.old lengths.old) c }
-    ensures { event_on s (lent used.old counts.old held.old candidates.old makers.old values.old changed.old registers.old snoops.old logs.old history.old lengths.old) c Event.Collect
-        ≡ record { answer = result.answer; collector = result.collector; tables = lent used.new counts.new held.new candidates.new makers.new values.new changed.new registers.new snoops.new logs.new history.new lengths.new } }
+// A collect event on a pool that is known to be sound: "One collect event does one of these". Each step is lent its own tables, so that the phases are cases here and no
+// list of functions. Where a step changes some tables and only reads others, both kinds are lent by `&mut`: shared loans beside mutable ones of one struct are not covered.
+fn collects(s: Sizes, t: &mut LentTables, c: Collector) -> Answered
+    requires { Known s (contents t.old) c }
+    ensures done { event_on s (contents t.old) c Event.Collect
+        ≡ record { answer = result.answer; collector = result.collector; tables = contents t.new } }
+    ensures same { SameTables t.old t.new }
 {
-    let phase = c.phase;
-    match phase {
+    match c.phase {
         0 => opens(s, c),
-        1 => snoops_step(s, snoops, lengths, c),
-        2 => takes(s, candidates, makers, logs, history, lengths, c),
-        3 => clears(s, changed, history, lengths, c),
-        4 => scans(s, held, registers, snoops, lengths, c),
+        1 => snoops_step(s, t.snoops, &mut *t.lengths, c),
+        2 => takes(s, t.candidates, t.makers, t.logs, t.history, t.lengths, c),
+        3 => clears(s, t.changed, &mut *t.history, &mut *t.lengths, c),
+        4 => scans(s, t.held, &mut *t.registers, t.snoops, &mut *t.lengths, c),
         5 => counts_step(
-            s, counts, candidates, values, changed, logs, history, lengths, c,
+            s,
+            t.counts,
+            t.candidates,
+            &mut *t.values,
+            &mut *t.changed,
+            &mut *t.logs,
+            t.history,
+            t.lengths,
+            c,
         ),
-        _ => reclaims(s, used, counts, held, candidates, values, changed, c),
+        _ => reclaims(
+            s,
+            t.used,
+            t.counts,
+            t.held,
+            t.candidates,
+            t.values,
+            &mut *t.changed,
+            c,
+        ),
     }
 }
 
 // An event on a pool that is known to be sound.
-pub fn event_known(
-    s: Sizes,
-    used: &mut [u64],
-    counts: &mut [u16],
-    held: &mut [u64],
-    candidates: &mut [u64],
-    makers: &mut [u16],
-    values: &mut [u16],
-    changed: &mut [u64],
-    registers: &mut [u16],
-    snoops: &mut [u16],
-    logs: &mut [u16],
-    history: &mut [u16],
-    lengths: &mut [u16],
-    c: Collector,
-    e: Event,
-) -> Answered
-    requires { Known s (lent used.old counts.old held.old candidates.old makers.old values.old changed.old registers.old snoops.old logs.old history.old lengths.old) c }
-    ensures { event_on s (lent used.old counts.old held.old candidates.old makers.old values.old changed.old registers.old snoops.old logs.old history.old lengths.old) c e
-        ≡ record { answer = result.answer; collector = result.collector; tables = lent used.new counts.new held.new candidates.new makers.new values.new changed.new registers.new snoops.new logs.new history.new lengths.new } }
+pub fn event_known(s: Sizes, t: &mut LentTables, c: Collector, e: Event) -> Answered
+    requires { Known s (contents t.old) c }
+    ensures done { event_on s (contents t.old) c e
+        ≡ record { answer = result.answer; collector = result.collector; tables = contents t.new } }
+    ensures same { SameTables t.old t.new }
 {
-    match e {
-        Event::Make { w, r } => Answered {
-            answer: makes(s, used, makers, registers, w, r),
-            collector: c,
-        },
-        Event::Move { w, r, q } => Answered {
-            answer: moves(s, registers, w, r, q),
-            collector: c,
-        },
-        Event::Drop { w, r } => Answered {
-            answer: drops(s, registers, w, r),
-            collector: c,
-        },
-        Event::Load { w, r, q, f } => Answered {
-            answer: loads(s, values, registers, w, r, q, f),
-            collector: c,
-        },
-        Event::Store { w, q, f, r } => Answered {
-            answer: stores(
-                s, held, values, changed, registers, snoops, logs, lengths, w, q, f, r,
-            ),
-            collector: c,
-        },
-        Event::Look { w, r, e } => Answered {
-            answer: looks(s, values, registers, w, r, e),
-            collector: c,
-        },
-        Event::Post { w, e, r } => Answered {
-            answer: posts(
-                s, held, values, changed, registers, snoops, logs, lengths, w, e, r,
-            ),
-            collector: c,
-        },
-        Event::Collect => collects(
-            s, used, counts, held, candidates, makers, values, changed, registers, snoops, logs,
-            history, lengths, c,
+    let answer = match e {
+        Event::Make { w, r } => makes(s, t.used, t.makers, t.registers, w, r),
+        Event::Move { w, r, q } => moves(s, t.registers, w, r, q),
+        Event::Drop { w, r } => drops(s, t.registers, w, r),
+        Event::Load { w, r, q, f } => loads(s, &mut *t.values, t.registers, w, r, q, f),
+        Event::Store { w, q, f, r } => stores(
+            s,
+            t.held,
+            t.values,
+            t.changed,
+            &mut *t.registers,
+            &mut *t.snoops,
+            t.logs,
+            t.lengths,
+            w,
+            q,
+            f,
+            r,
         ),
+        Event::Look { w, r, e } => looks(s, &mut *t.values, t.registers, w, r, e),
+        Event::Post { w, e, r } => posts(
+            s,
+            t.held,
+            t.values,
+            t.changed,
+            &mut *t.registers,
+            &mut *t.snoops,
+            t.logs,
+            t.lengths,
+            w,
+            e,
+            r,
+        ),
+        Event::Collect => return collects(s, t, c),
+    };
+    Answered {
+        answer,
+        collector: c,
     }
 }

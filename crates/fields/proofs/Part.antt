@@ -13,13 +13,15 @@ use borrow.Author.Tests.{lt-ltb, le-ltb}
 use lib.Dec.{eqb, ltb}
 use lib.ListN.{length, length-append, get_or-append}
 use lib.Seq.{get_or-append-add}
+use Rattle.std.specs.Prelude.{Result, Ok, Err}
+use Rattle.rules.specs.declared.Refusal.{Refusal}
 use Rattle.rules.specs.Outcome.{Test}
 use Rattle.laws.proofs.Tests.{below_or_not}
 use Rattle.fields.specs.declared.Stage.{Stage}
 use Rattle.fields.specs.declared.Stage.TheVariants.{First, Events, Ended}
 use Rattle.fields.specs.declared.Reader.{Reader}
 use Rattle.fields.specs.declared.Read.{Read}
-use Rattle.fields.specs.Field.{byte_at, two_at, four_at, sizes_tag, end_tag, payload_at, board_at, sizes_at, event_at, refusals, refused_at, decide, taken, behind_end, field_at, read_at}
+use Rattle.fields.specs.Field.{byte_at, two_at, four_at, sizes_tag, end_tag, payload_at, board_at, sizes_at, event_at, refusals, decide, taken, behind_end, field_at, placed, read_at}
 use Rattle.fields.specs.Part.{longest, moved}
 use Rattle.fields.proofs.Tags.{payload_most}
 use Rattle.fields.proofs.Order.{at_stage}
@@ -80,8 +82,16 @@ module _ {bytes : List ℕ} {n : ℕ} {part : List ℕ} {i : ℕ} (alike : Alike
         four_alike (n + i + 3) (i + 3) (omega arith) (omega arith) (omega arith),
       )
 
-  taken_alike : (reader : Reader) → taken bytes (n + i) reader ≡ moved n (taken part i reader)
-  unfolding taken moved
+  -- what was read in the part, as it stands in the whole trace
+  abbrev on : Read → Read
+  on x = record { field = x.field; next = n + x.next; reader = x.reader }
+
+  abbrev read_on : Result Read Refusal → Result Read Refusal
+  read_on (Ok x) = Ok (on x)
+  read_on (Err why) = Err why
+
+  taken_alike : (reader : Reader) → taken bytes (n + i) reader ≡ on (taken part i reader)
+  unfolding taken
   taken_alike reader = by_tag (eqb tag sizes_tag) refl (eqb tag end_tag) refl
     where
       tag : ℕ
@@ -90,40 +100,45 @@ module _ {bytes : List ℕ} {n : ℕ} {part : List ℕ} {i : ℕ} (alike : Alike
       next : n + i + 3 + payload_at part i ≡ n + (i + 3 + payload_at part i)
       next = omega arith
 
-      by_tag : (x : Bool) → eqb tag sizes_tag ≡ x → (y : Bool) → eqb tag end_tag ≡ y → taken bytes (n + i) reader ≡ moved n (taken part i reader)
+      by_tag : (x : Bool) → eqb tag sizes_tag ≡ x → (y : Bool) → eqb tag end_tag ≡ y → taken bytes (n + i) reader ≡ on (taken part i reader)
       by_tag true is_sizes y is_end = rw (tag_alike, long_alike, is_sizes, sizes_alike (payload_at part i), next)
       by_tag false is_sizes true is_end = rw (tag_alike, long_alike, is_sizes, is_end, next)
       by_tag false is_sizes false is_end = rw (tag_alike, long_alike, is_sizes, is_end, four_alike (n + i + 3) (i + 3) (omega arith) (omega arith) (omega arith), event_alike tag, next)
 
-  decide_alike : (reader : Reader) (tests : List Test) (x : Read) → decide (n + i) reader tests (moved n x) ≡ moved n (decide i reader tests x)
-  unfolding decide moved
-  decide_alike reader [] x = refl
-  decide_alike reader (t ∷ tests) x = by_test t.when (decide_alike reader tests x)
+  decide_alike : (tests : List Test) (x : Read) → decide tests (on x) ≡ read_on (decide tests x)
+  unfolding decide
+  decide_alike [] x = refl
+  decide_alike (t ∷ tests) x = by_test t.when (decide_alike tests x)
     where
-      by_test : (b : Bool) → decide (n + i) reader tests (moved n x) ≡ moved n (decide i reader tests x)
-          → cond b (refused_at t.why (n + i) reader) (decide (n + i) reader tests (moved n x))
-          ≡ moved n (cond b (refused_at t.why i reader) (decide i reader tests x))
+      by_test : (b : Bool) → decide tests (on x) ≡ read_on (decide tests x)
+          → cond b (Err t.why) (decide tests (on x)) ≡ read_on (cond b (Err t.why) (decide tests x))
       by_test true rest = refl
       by_test false rest = rest
 
-  field_alike : (reader : Reader) → field_at bytes (n + i) reader ≡ moved n (field_at part i reader)
+  field_alike : (reader : Reader) → field_at bytes (n + i) reader ≡ read_on (field_at part i reader)
   unfolding field_at
   field_alike reader =
-      (λ j. decide (n + i) reader (refusals_alike reader j) (taken_alike reader j)) ∙ decide_alike reader (refusals part i reader) (taken part i reader)
+      (λ j. decide (refusals_alike reader j) (taken_alike reader j)) ∙ decide_alike (refusals part i reader) (taken part i reader)
 
-  end_alike : (reader : Reader) → behind_end bytes (n + i) reader ≡ moved n (behind_end part i reader)
-  unfolding behind_end moved
+  end_alike : (reader : Reader) → behind_end bytes (n + i) reader ≡ read_on (behind_end part i reader)
+  unfolding behind_end
   end_alike reader = by_more (ltb i (length part)) refl
     where
-      by_more : (b : Bool) → ltb i (length part) ≡ b → behind_end bytes (n + i) reader ≡ moved n (behind_end part i reader)
+      by_more : (b : Bool) → ltb i (length part) ≡ b → behind_end bytes (n + i) reader ≡ read_on (behind_end part i reader)
       by_more true e = rw (alike.more, e)
       by_more false e = rw (alike.more, e)
 
+  -- a refusal's place is moved too
+  placed_on : (x : Result Read Refusal) → placed (n + i) (read_on x) ≡ moved n (placed i x)
+  unfolding moved
+  placed_on (Ok x) = refl
+  placed_on (Err why) = refl
+
   read_alike : (reader : Reader) → read_at bytes (n + i) reader ≡ moved n (read_at part i reader)
   unfolding read_at
-  read_alike reader = by_stage reader.stage
+  read_alike reader = ap (placed (n + i)) (by_stage reader.stage) ∙ placed_on (at_stage part i reader reader.stage)
     where
-      by_stage : (stage : Stage) → at_stage bytes (n + i) reader stage ≡ moved n (at_stage part i reader stage)
+      by_stage : (stage : Stage) → at_stage bytes (n + i) reader stage ≡ read_on (at_stage part i reader stage)
       by_stage First = field_alike reader
       by_stage Events = field_alike reader
       by_stage Ended = end_alike reader

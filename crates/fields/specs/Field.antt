@@ -6,10 +6,11 @@
 --     payload_test, refusals     the tests of a field, in the document's order
 --     taken, taken_or_not, field_at, behind_end     a field that nothing refuses, one whose payload is whole, any field, and what comes behind the end
 --     WholeAt                   the payload is whole
+--     refused_at, placed         why a trace is refused, with the place
 --     read_at                    what stands at a place
 --     EventSized                how long the event field is that stands there
 -- Assumes nothing.
-use Rattle.std.specs.Prelude.{ℕ, ◌+◌, ◌*◌, ◌≤◌, ◌<◌, ◌≡◌, Bool, true, cond, not, ◌&&◌, ◌||◌, List, [], ◌∷◌, eqb, ltb, length, get_or}
+use Rattle.std.specs.Prelude.{ℕ, ◌+◌, ◌*◌, ◌≤◌, ◌<◌, ◌≡◌, Bool, true, cond, not, ◌&&◌, ◌||◌, List, [], ◌∷◌, eqb, ltb, length, get_or, Option, IfSome, IfNone, Result, Ok, Err}
 use Rattle.rules.specs.declared.Sizes.{Sizes}
 use Rattle.rules.specs.declared.Event.{Event}
 use Rattle.rules.specs.declared.Event.TheVariants.{Make, Move, Drop, Load, Store, Look, Post, Collect}
@@ -22,6 +23,7 @@ use Rattle.fields.specs.declared.Stage.TheVariants.{First, Events, Ended}
 use Rattle.fields.specs.declared.Reader.{Reader}
 use Rattle.fields.specs.declared.Field.TheVariants as field
 use Rattle.fields.specs.declared.Read.{Read}
+use Rattle.fields.specs.declared.RefusedAt.{RefusedAt}
 
 -- ---- numbers
 
@@ -129,13 +131,10 @@ refusals bytes place reader =
 
 -- ---- what stands at a place
 
-abbrev pub refused_at : Refusal → ℕ → Reader → Read
-refused_at why place reader = record { field = field.Refused why place; next = place; reader = reader }
-
 -- the first test that is true refuses, else the field is taken
-unfoldable pub decide : ℕ → Reader → List Test → Read → Read
-decide place reader [] taken = taken
-decide place reader (t ∷ tests) taken = cond t.when (refused_at t.why place reader) (decide place reader tests taken)
+unfoldable pub decide : List Test → Read → Result Read Refusal
+decide [] taken = Ok taken
+decide (t ∷ tests) taken = cond t.when (Err t.why) (decide tests taken)
 
 -- a field that nothing refuses
 unfoldable pub taken : List ℕ → ℕ → Reader → Read
@@ -151,37 +150,44 @@ taken bytes place reader =
     (record { field = field.Event (four_at bytes i) (event_at tag bytes (i + 4)); next = next; reader = record { stage = Events; step = four_at bytes i } }))
 
 -- "a byte after the end field"
-unfoldable pub behind_end : List ℕ → ℕ → Reader → Read
-behind_end bytes place reader =
-    cond (ltb place (length bytes)) (refused_at ExtraByte place reader) (record { field = field.Nothing; next = place; reader = reader })
+unfoldable pub behind_end : List ℕ → ℕ → Reader → Result Read Refusal
+behind_end bytes place reader = cond (ltb place (length bytes)) (Err ExtraByte) (Ok (record { field = field.Nothing; next = place; reader = reader }))
 
 -- a field whose payload is whole
-unfoldable pub taken_or_not : List ℕ → ℕ → Reader → Read
-taken_or_not bytes place reader =
-    decide place reader (payload_test (byte_at bytes place) (payload_at bytes place) bytes (place + 3) reader ∷ []) (taken bytes place reader)
+unfoldable pub taken_or_not : List ℕ → ℕ → Reader → Result Read Refusal
+taken_or_not bytes place reader = decide (payload_test (byte_at bytes place) (payload_at bytes place) bytes (place + 3) reader ∷ []) (taken bytes place reader)
 
 -- the tag is known, and the bytes of its payload are there
 pub record WholeAt (bytes : List ℕ) (place : ℕ) : Type 0 where
   pub tag : payload_of (byte_at bytes place) ≡ 0 → ⊥
   pub whole : place + 3 + payload_at bytes place ≤ length bytes
 
-unfoldable pub field_at : List ℕ → ℕ → Reader → Read
-field_at bytes place reader = decide place reader (refusals bytes place reader) (taken bytes place reader)
+unfoldable pub field_at : List ℕ → ℕ → Reader → Result Read Refusal
+field_at bytes place reader = decide (refusals bytes place reader) (taken bytes place reader)
 
-unfoldable pub read_at : List ℕ → ℕ → Reader → Read
+-- "the offset of the field's tag or where it would stand (11: of the extra byte)"
+abbrev pub refused_at : {A : Type 0} → Refusal → ℕ → Result A RefusedAt
+refused_at why place = Err (record { why = why; place = place })
+
+-- what is read at a place, or refused there
+abbrev pub placed : {A : Type 0} → ℕ → Result A Refusal → Result A RefusedAt
+placed place (Ok x) = Ok x
+placed place (Err why) = refused_at why place
+
+unfoldable pub read_at : List ℕ → ℕ → Reader → Result Read RefusedAt
 read_at bytes place reader =
-    elim reader.stage [ First ↦ field_at bytes place reader | Events ↦ field_at bytes place reader | Ended ↦ behind_end bytes place reader ]
+    placed place (elim reader.stage [ First ↦ field_at bytes place reader | Events ↦ field_at bytes place reader | Ended ↦ behind_end bytes place reader ])
 
--- so long is the event field that stands at a place behind a step; 0 where none does
-pub record EventSized (bytes : List ℕ) (place step size : ℕ) : Type 0 where
-  pub none : size ≡ 0 → (n : ℕ) (e : Event) → (read_at bytes place (record { stage = Events; step = step })).field ≡ field.Event n e → ⊥
-  pub reads : (size ≡ 0 → ⊥)
-      → ◌≡◌ {A = Read} (read_at bytes place (record { stage = Events; step = step }))
-      (record {
+-- so long is the event field that stands at a place behind a step, where one does
+pub record EventSized (bytes : List ℕ) (place step : ℕ) (size : Option ℕ) : Type 0 where
+  pub none : IfNone size ((x : Read) (n : ℕ) (e : Event) → read_at bytes place (record { stage = Events; step = step }) ≡ Ok x → x.field ≡ field.Event n e → ⊥)
+  pub reads : IfSome size (λ n.
+      read_at bytes place (record { stage = Events; step = step })
+      ≡ Ok (record {
         field = field.Event (step + 1) (event_at (byte_at bytes place) bytes (place + 7));
-        next = place + size;
+        next = place + n;
         reader = record { stage = Events; step = step + 1 };
-      })
-  pub whole : (size ≡ 0 → ⊥) → (size ≡ 3 + payload_of (byte_at bytes place)) × (place + size ≤ length bytes)
+      }))
+  pub whole : IfSome size (λ n. (n ≡ 3 + payload_of (byte_at bytes place)) × (place + n ≤ length bytes))
   -- "nothing follows 4,294,967,295"
-  pub follows : (size ≡ 0 → ⊥) → step + 1 < 4294967296
+  pub follows : IfSome size (λ n. step + 1 < 4294967296)

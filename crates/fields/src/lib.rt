@@ -1,16 +1,39 @@
 // The field reader: what stands at a place of a trace, by document 01's field rules. All of it is inner (decision 4 of docs/DECISIONS.md).
 //     Stage, Reader      what may come next: the sizes, an event or the end, or nothing; and the last step number
 //     Field, Read        what stands at a place, the place behind it, and what may come then
+//     RefusedAt          why a trace is refused, and where
 //     read_at            the field reader. It takes any bytes, any place and any state of the reader
 //     event_size         where an event stands, for whoever reads events one after another
-// Below these: payload_of, payload_for, is_misplaced, two_at, four_at, board_at, sizes_at, event_at, which read a field's parts; take_field and read_field, which read a field.
+// Below these: payload_of, payload_for, is_misplaced, two_at, four_at, board_at, sizes_at, event_at, which read a field's parts; take_field and read_field, which read a field,
+// and read_behind_end.
 #![tactic(auto)]
 
-ghost use Rattle.std.specs.Prelude.{◌≡◌, ◌+◌, ◌≤◌, ◌<◌, length};
-ghost use Rattle.fields.specs.Field.{two_at, four_at, payload_of, payload_for, payload_at, board_at, sizes_at, event_at, misplaced, refused_at, WholeAt, taken_or_not, field_at, read_at, EventSized};
+ghost use Rattle.std.specs.Prelude.{◌≡◌, ◌+◌, ◌≤◌, ◌<◌, length, MatchOption};
+ghost use Rattle.fields.specs.Field.{two_at, four_at, payload_of, payload_for, payload_at, board_at, sizes_at, event_at, misplaced, WholeAt, taken_or_not, field_at, behind_end, read_at, EventSized};
 
 use rules::{Event, Refusal, Sizes};
 use tables::place::in_range;
+
+// The tags of the fields. They are numbers and no enum: `payload_of` and `event_at` of specs/Field.antt are over any byte, and C hands a tag as a byte.
+const SIZES_TAG: u8 = 0x01;
+
+const MAKE_TAG: u8 = 0x10;
+
+const MOVE_TAG: u8 = 0x11;
+
+const DROP_TAG: u8 = 0x12;
+
+const LOAD_TAG: u8 = 0x13;
+
+const STORE_TAG: u8 = 0x14;
+
+const LOOK_TAG: u8 = 0x15;
+
+const POST_TAG: u8 = 0x16;
+
+const COLLECT_TAG: u8 = 0x20;
+
+pub const END_TAG: u8 = 0x7F;
 
 // What may come next in a trace.
 #[derive(Clone, Copy)]
@@ -30,6 +53,24 @@ pub struct Reader {
     pub step: u32,
 }
 
+impl Reader {
+    // Where a trace begins.
+    pub const FIRST: Reader = Reader {
+        stage: Stage::First,
+        step: 0,
+    };
+
+    // Behind the event of this step number, or behind the sizes with 0.
+    pub fn behind(step: u32) -> Reader
+        ensures { result ≡ record { stage = Stage.Events; step = step } }
+    {
+        Reader {
+            stage: Stage::Events,
+            step,
+        }
+    }
+}
+
 // What stands at a place of a trace.
 #[derive(Clone, Copy)]
 pub enum Field {
@@ -37,13 +78,11 @@ pub enum Field {
     // A step number and its event.
     Event(u32, Event),
     End,
-    // Nothing stands there, and nothing should: the trace is whole.
+    // Nothing stands there, and nothing should: the trace is whole. A case and no `Option`: `behind_end` and `is_taken` of specs/ name it among the fields.
     Nothing,
-    // Why it is refused, and where: "the offset of the field's tag or where it would stand (11: of the extra byte)".
-    Refused(Refusal, usize),
 }
 
-// What stands at a place, the place behind it, and what may come there. Behind a refusal, and where nothing stands, both are as they were.
+// What stands at a place, the place behind it, and what may come there. Where nothing stands, both are as they were.
 #[derive(Clone, Copy)]
 pub struct Read {
     pub field: Field,
@@ -51,28 +90,37 @@ pub struct Read {
     pub reader: Reader,
 }
 
-// How long the payload of a tag is, of the sizes without a board; 0 where there is no such tag.
+// Why a trace is refused, and where: "the offset of the field's tag or where it would stand (11: of the extra byte)".
+#[derive(Clone, Copy)]
+pub struct RefusedAt {
+    pub why: Refusal,
+    pub place: usize,
+}
+
+// How long the payload of a tag is, of the sizes without a board, if there is such a tag.
 #[tactic(auto, unfolding(crate::specs::Field::payload_of))]
-fn payload_of(tag: u8) -> usize
-    ensures { result ≡ payload_of tag }
+fn payload_of(tag: u8) -> Option<usize>
+    ensures { MatchOption result (payload_of tag ≡ 0) (λ n. (n ≡ payload_of tag) × (0 < n)) }
 {
     match tag {
-        0x01 | 0x13 | 0x14 => 8,
-        0x10 | 0x12 => 6,
-        0x11 | 0x15 | 0x16 => 7,
-        0x20 | 0x7F => 4,
-        _ => 0,
+        SIZES_TAG | LOAD_TAG | STORE_TAG => Some(8),
+        MAKE_TAG | DROP_TAG => Some(6),
+        MOVE_TAG | LOOK_TAG | POST_TAG => Some(7),
+        COLLECT_TAG | END_TAG => Some(4),
+        _ => None,
     }
 }
 
 // How long it is in a field of this length, if the length is right at all: the sizes may have a board.
-fn payload_for(tag: u8, long: u16) -> usize
-    ensures { result ≡ payload_for tag long }
+#[tactic(auto, unfolding(crate::specs::Field::payload_of, crate::specs::Field::payload_for))]
+fn payload_for(tag: u8, long: u16) -> Option<usize>
+    ensures { MatchOption result (payload_of tag ≡ 0) (λ n. (n ≡ payload_for tag long) × (0 < payload_of tag)) }
 {
-    if (tag == 0x01) & (long == 10) {
-        return 10;
+    if tag == SIZES_TAG && long == 10 {
+        Some(10)
+    } else {
+        payload_of(tag)
     }
-    payload_of(tag)
 }
 
 // "first field not the sizes, or sizes a second time"
@@ -81,8 +129,8 @@ fn is_misplaced(stage: Stage, tag: u8) -> bool
     ensures { result ≡ misplaced stage tag }
 {
     match stage {
-        Stage::First => tag != 0x01,
-        Stage::Events => tag == 0x01,
+        Stage::First => tag != SIZES_TAG,
+        Stage::Events => tag == SIZES_TAG,
         Stage::Ended => true,
     }
 }
@@ -92,14 +140,14 @@ fn two_at(bytes: &[u8], i: usize) -> u16
     requires { i + 1 < length bytes.now }
     ensures { result ≡ two_at bytes.now i }
 {
-    (bytes[i] as u16) * 256 + (bytes[i + 1] as u16)
+    u16::from_be_bytes([bytes[i], bytes[i + 1]])
 }
 
 pub fn four_at(bytes: &[u8], i: usize) -> u32
     requires { i + 3 < length bytes.now }
     ensures { result ≡ four_at bytes.now i }
 {
-    (two_at(bytes, i) as u32) * 65536 + (two_at(bytes, i + 2) as u32)
+    u32::from_be_bytes([bytes[i], bytes[i + 1], bytes[i + 2], bytes[i + 3]])
 }
 
 // The event of a tag, whose bytes behind the step number stand at i.
@@ -109,37 +157,37 @@ pub fn event_at(tag: u8, bytes: &[u8], i: usize) -> Event
     ensures { result ≡ event_at tag bytes.now i }
 {
     match tag {
-        0x10 => Event::Make {
+        MAKE_TAG => Event::Make {
             w: bytes[i],
             r: bytes[i + 1],
         },
-        0x11 => Event::Move {
+        MOVE_TAG => Event::Move {
             w: bytes[i],
             r: bytes[i + 1],
             q: bytes[i + 2],
         },
-        0x12 => Event::Drop {
+        DROP_TAG => Event::Drop {
             w: bytes[i],
             r: bytes[i + 1],
         },
-        0x13 => Event::Load {
+        LOAD_TAG => Event::Load {
             w: bytes[i],
             r: bytes[i + 1],
             q: bytes[i + 2],
             f: bytes[i + 3],
         },
-        0x14 => Event::Store {
+        STORE_TAG => Event::Store {
             w: bytes[i],
             q: bytes[i + 1],
             f: bytes[i + 2],
             r: bytes[i + 3],
         },
-        0x15 => Event::Look {
+        LOOK_TAG => Event::Look {
             w: bytes[i],
             r: bytes[i + 1],
             e: bytes[i + 2],
         },
-        0x16 => Event::Post {
+        POST_TAG => Event::Post {
             w: bytes[i],
             e: bytes[i + 1],
             r: bytes[i + 2],
@@ -154,9 +202,10 @@ fn board_at(bytes: &[u8], i: usize, payload: usize) -> u16
     ensures { result ≡ board_at bytes.now i payload }
 {
     if payload == 10 {
-        return two_at(bytes, i + 8);
+        two_at(bytes, i + 8)
+    } else {
+        0
     }
-    0
 }
 
 fn sizes_at(bytes: &[u8], i: usize, payload: usize) -> Sizes
@@ -172,145 +221,126 @@ fn sizes_at(bytes: &[u8], i: usize, payload: usize) -> Sizes
     }
 }
 
-// A refusal at a place.
-fn refused_at(why: Refusal, place: usize, reader: Reader) -> Read
-    ensures { result ≡ refused_at why place reader }
-{
-    Read {
-        field: Field::Refused(why, place),
-        next: place,
-        reader,
-    }
-}
-
 // "then 1 for sizes, 10 for an event, 12 for the end": a field whose payload is whole.
-fn take_field(bytes: &[u8], place: usize, payload: usize, reader: Reader) -> Read
+#[tactic(auto, using(crate::proofs::Tags::payload_least, crate::proofs::Tags::sizes_payload, crate::proofs::Tags::other_payload), unfolding(crate::specs::Field::taken_or_not, crate::specs::Field::decide, crate::specs::Field::taken))]
+fn take_field(bytes: &[u8], place: usize, payload: usize, reader: Reader) -> Result<Read, Refusal>
     requires { WholeAt bytes.now place × (payload ≡ payload_at bytes.now place) }
     ensures { result ≡ taken_or_not bytes.now place reader }
 {
     let tag = bytes[place];
     let i = place + 3;
     let next = i + payload;
-    if tag == 0x01 {
+    if tag == SIZES_TAG {
         let s = sizes_at(bytes, i, payload);
         if !in_range(s) {
-            return refused_at(Refusal::WrongSize, place, reader);
+            return Err(Refusal::WrongSize);
         }
-        return Read {
+        return Ok(Read {
             field: Field::Sizes(s),
             next,
-            reader: Reader {
-                stage: Stage::Events,
-                step: 0,
-            },
-        };
+            reader: Reader::behind(0),
+        });
     }
     let step = four_at(bytes, i);
-    if tag == 0x7F {
+    if tag == END_TAG {
         if step != reader.step {
-            return refused_at(Refusal::WrongCount, place, reader);
+            return Err(Refusal::WrongCount);
         }
-        return Read {
+        return Ok(Read {
             field: Field::End,
             next,
             reader: Reader {
                 stage: Stage::Ended,
                 step,
             },
-        };
+        });
     }
-    if (step as u64) != (reader.step as u64) + 1 {
-        return refused_at(Refusal::WrongStep, place, reader);
+    if u64::from(step) != u64::from(reader.step) + 1 {
+        return Err(Refusal::WrongStep);
     }
-    Read {
+    Ok(Read {
         field: Field::Event(step, event_at(tag, bytes, i + 4)),
         next,
-        reader: Reader {
-            stage: Stage::Events,
-            step,
-        },
-    }
+        reader: Reader::behind(step),
+    })
 }
 
 // "Order for a field: fewer than three bytes left 9; 7; 8; payload not whole 9; then .."
-fn read_field(bytes: &[u8], place: usize, reader: Reader) -> Read
+#[tactic(auto, unfolding(crate::specs::Field::field_at, crate::specs::Field::refusals, crate::specs::Field::decide, crate::specs::Field::taken_or_not))]
+fn read_field(bytes: &[u8], place: usize, reader: Reader) -> Result<Read, Refusal>
     ensures { result ≡ field_at bytes.now place reader }
 {
-    if bytes.len() <= place {
-        return refused_at(Refusal::StopsShort, place, reader);
-    }
-    let left = bytes.len() - place;
+    let left = bytes.len().saturating_sub(place);
     if left < 3 {
-        return refused_at(Refusal::StopsShort, place, reader);
+        return Err(Refusal::StopsShort);
     }
     let tag = bytes[place];
-    if payload_of(tag) == 0 {
-        return refused_at(Refusal::WrongTag, place, reader);
-    }
-    let stage = reader.stage;
-    if is_misplaced(stage, tag) {
-        return refused_at(Refusal::WrongTag, place, reader);
-    }
     let long = two_at(bytes, place + 1);
-    let payload = payload_for(tag, long);
-    if (long as usize) != payload {
-        return refused_at(Refusal::WrongLength, place, reader);
+    let Some(payload) = payload_for(tag, long) else {
+        return Err(Refusal::WrongTag);
+    };
+    if is_misplaced(reader.stage, tag) {
+        return Err(Refusal::WrongTag);
+    }
+    if usize::from(long) != payload {
+        return Err(Refusal::WrongLength);
     }
     if left < 3 + payload {
-        return refused_at(Refusal::StopsShort, place, reader);
+        return Err(Refusal::StopsShort);
     }
     take_field(bytes, place, payload, reader)
 }
 
-// What stands at a place of a trace. Two wrong programs that the contract rules out: one that refuses every trace, and one that forgets the last step number
-// behind the first event.
-pub fn read_at(bytes: &[u8], place: usize, reader: Reader) -> Read
-    ensures { result ≡ read_at bytes.now place reader }
+// "a byte after the end field"
+#[tactic(auto, unfolding(crate::specs::Field::behind_end))]
+fn read_behind_end(bytes: &[u8], place: usize, reader: Reader) -> Result<Read, Refusal>
+    ensures { result ≡ behind_end bytes.now place reader }
 {
-    let stage = reader.stage;
-    if let Stage::Ended = stage {
-        if place < bytes.len() {
-            return refused_at(Refusal::ExtraByte, place, reader);
-        }
-        return Read {
-            field: Field::Nothing,
-            next: place,
-            reader,
-        };
+    if place < bytes.len() {
+        return Err(Refusal::ExtraByte);
     }
-    read_field(bytes, place, reader)
+    Ok(Read {
+        field: Field::Nothing,
+        next: place,
+        reader,
+    })
 }
 
-// How long the event field is that stands at a place behind a step; 0 where none does.
-pub fn event_size(bytes: &[u8], place: usize, step: u32) -> usize
+// What stands at a place of a trace. Two wrong programs that the contract rules out: one that refuses every trace, and one that forgets the last step number
+// behind the first event.
+#[tactic(auto, unfolding(crate::specs::Field::read_at))]
+pub fn read_at(bytes: &[u8], place: usize, reader: Reader) -> Result<Read, RefusedAt>
+    ensures { result ≡ read_at bytes.now place reader }
+{
+    let read = match reader.stage {
+        Stage::First | Stage::Events => read_field(bytes, place, reader),
+        Stage::Ended => read_behind_end(bytes, place, reader),
+    };
+    read.map_err(|why| RefusedAt { why, place })
+}
+
+// How long the event field is that stands at a place behind a step, if one does. It has tests of its own: `read_at` answers a struct through memory, which made a loop
+// over the events of a trace slower (decision 39 of docs/DECISIONS.md).
+pub fn event_size(bytes: &[u8], place: usize, step: u32) -> Option<usize>
     ensures { EventSized bytes.now place step result }
 {
-    if bytes.len() <= place {
-        return 0;
-    }
-    let left = bytes.len() - place;
+    let left = bytes.len().saturating_sub(place);
     if left < 7 {
-        return 0;
+        return None;
     }
     let tag = bytes[place];
-    if tag == 0x01 {
-        return 0;
+    if tag == SIZES_TAG || tag == END_TAG {
+        return None;
     }
-    if tag == 0x7F {
-        return 0;
-    }
-    let payload = payload_of(tag);
-    if payload == 0 {
-        return 0;
-    }
+    let payload = payload_of(tag)?;
     if left < 3 + payload {
-        return 0;
+        return None;
     }
-    if (two_at(bytes, place + 1) as usize) != payload {
-        return 0;
+    if usize::from(two_at(bytes, place + 1)) != payload {
+        return None;
     }
-    if (four_at(bytes, place + 3) as u64) != (step as u64) + 1 {
-        return 0;
+    if u64::from(four_at(bytes, place + 3)) != u64::from(step) + 1 {
+        return None;
     }
-    3 + payload
+    Some(3 + payload)
 }

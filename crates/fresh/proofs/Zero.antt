@@ -1,6 +1,8 @@
 -- The tables of a fresh pool are 0 throughout: "A fresh pool has every number 0, every record free, every list empty".
 --     zero_tables     twelve tables of 0
 --     fresh-zero      the tables of a fresh pool are these
+--     Cleared         tables of which each is cleared, and each has the length that it had
+--     cleared_all     those of the sizes' lengths are twelve tables of 0
 -- Assumes nothing.
 use Prim.Native.Nat.{ℕ, zero, suc, ◌+◌, ◌*◌}
 use mathlib.Core.Path.{◌≡◌, refl, ap, ◌∙◌}
@@ -15,6 +17,7 @@ use Rattle.rules.specs.Size.{links}
 use Rattle.rules.specs.Pool.{Entry, none, fresh}
 use Rattle.tables.specs.Bits.{word_count}
 use Rattle.tables.specs.Tables.{Tables}
+use Rattle.tables.specs.Known.{Exact}
 use Rattle.tables.specs.Lie.{numbers, laid, room, tables_of}
 use Rattle.tables.proofs.Entered.{laid_empty}
 use Rattle.tables.proofs.Packed.{all_off}
@@ -71,4 +74,41 @@ fresh-zero s =
           (ap flatten (map-replicate (laid (links s)) s.w [] ∙ ap (replicate s.w) (laid_empty (links s))) ∙ joined_zeros s.w (room s)) j;
       history = laid_empty (links s) j;
       lengths = (ap (λ (xs : List ℕ). xs ++ (0 ∷ [])) (map-replicate (length {A = Entry}) s.w []) ∙ replicate-append-replicate s.w 1 0) j;
+    }
+
+-- a table that is cleared is 0 as often as it is long
+pub record Cleared (before after : Tables) : Type 0 where
+  pub used : after.used ≡ replicate (length before.used) 0
+  pub counts : after.counts ≡ replicate (length before.counts) 0
+  pub held : after.held ≡ replicate (length before.held) 0
+  pub candidates : after.candidates ≡ replicate (length before.candidates) 0
+  pub makers : after.makers ≡ replicate (length before.makers) 0
+  pub values : after.values ≡ replicate (length before.values) 0
+  pub changed : after.changed ≡ replicate (length before.changed) 0
+  pub registers : after.registers ≡ replicate (length before.registers) 0
+  pub snoops : after.snoops ≡ replicate (length before.snoops) 0
+  pub logs : after.logs ≡ replicate (length before.logs) 0
+  pub history : after.history ≡ replicate (length before.history) 0
+  pub lengths : after.lengths ≡ replicate (length before.lengths) 0
+
+cleared : {xs : List ℕ} (n m : ℕ) → xs ≡ replicate n 0 → n ≡ m → xs ≡ replicate m 0
+cleared n m e h = e ∙ ap (λ (k : ℕ). replicate k 0) h
+
+pub cleared_all : (s : Sizes) {before after : Tables} → Exact s before → Cleared before after → after ≡ zero_tables s
+unfolding zero_tables
+cleared_all s exact all =
+    λ j.
+    record {
+      used = cleared _ _ all.used exact.used j;
+      counts = cleared _ _ all.counts exact.counts j;
+      held = cleared _ _ all.held exact.held j;
+      candidates = cleared _ _ all.candidates exact.candidates j;
+      makers = cleared _ _ all.makers exact.makers j;
+      values = cleared _ _ all.values exact.values j;
+      changed = cleared _ _ all.changed exact.changed j;
+      registers = cleared _ _ all.registers exact.registers j;
+      snoops = cleared _ _ all.snoops exact.snoops j;
+      logs = cleared _ _ all.logs exact.logs j;
+      history = cleared _ _ all.history exact.history j;
+      lengths = cleared _ _ all.lengths exact.lengths j;
     }

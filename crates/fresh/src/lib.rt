@@ -5,128 +5,74 @@
 #![tactic(auto)]
 
 ghost use Rattle.std.specs.Prelude.{◌≡◌};
-ghost use Rattle.tables.specs.Tables.{lent};
+ghost use Rattle.tables.specs.Lent.{contents, seen, SameTables};
 ghost use Rattle.fresh.specs.Fits.{is_exact, fits};
 ghost use Rattle.fresh.specs.Free.{free_in};
 ghost use Rattle.fresh.specs.Fresh.{made_fresh};
 
 use rules::{Answer, Answered, Collector, Refusal, Sizes};
-use tables::list::clear;
-use tables::mark::{clear_marks, count_off};
-use tables::place::{in_range, wide};
+use tables::lent::{LentTables, ReadTables};
+use tables::mark::count_off;
+use tables::place::{in_range, word_count};
 
 // "lent tables .. whose lengths must be exact"
-fn is_exact(
-    s: Sizes,
-    used: &[u64],
-    counts: &[u16],
-    held: &[u64],
-    candidates: &[u64],
-    makers: &[u16],
-    values: &[u16],
-    changed: &[u64],
-    registers: &[u16],
-    snoops: &[u16],
-    logs: &[u16],
-    history: &[u16],
-    lengths: &[u16],
-) -> bool
-    ensures { result ≡ is_exact s (lent used.now counts.now held.now candidates.now makers.now values.now changed.now registers.now snoops.now logs.now history.now lengths.now) }
+#[tactic(auto, unfolding(crate::specs::Fits::is_exact, rules::specs::Size::links))]
+fn is_exact(s: Sizes, t: ReadTables) -> bool
+    ensures { result ≡ is_exact s (seen t.entry) }
 {
-    let records = s.n as usize;
-    let links = (s.n as usize) * (s.k as usize) + (s.b as usize);
-    let workers = s.w as usize;
-    let places = (s.w as usize) * (s.r as usize);
-    let words = (records + 63) / 64;
-    let link_words = (links + 63) / 64;
-    (used.len() == words)
-        & (counts.len() == records)
-        & (held.len() == words)
-        & (candidates.len() == words)
-        & (makers.len() == records)
-        & (values.len() == links)
-        & (changed.len() == link_words)
-        & (registers.len() == places + 1)
-        & (snoops.len() == workers)
-        & (logs.len() == workers * (links * 2))
-        & (history.len() == links * 2)
-        & (lengths.len() == workers + 1)
+    let records = usize::from(s.n);
+    let links = records * usize::from(s.k) + usize::from(s.b);
+    let workers = usize::from(s.w);
+    let words = word_count(s.n);
+    (t.used.len() == words)
+        & (t.counts.len() == records)
+        & (t.held.len() == words)
+        & (t.candidates.len() == words)
+        & (t.makers.len() == records)
+        & (t.values.len() == links)
+        & (t.changed.len() == links.div_ceil(64))
+        & (t.registers.len() == workers * usize::from(s.r) + 1)
+        & (t.snoops.len() == workers)
+        & (t.logs.len() == workers * (links * 2))
+        & (t.history.len() == links * 2)
+        & (t.lengths.len() == workers + 1)
 }
 
 // "1: a size is out of its range, or a lent table has another length": it is not so. Inner.
-pub fn has_shape(
-    s: Sizes,
-    used: &[u64],
-    counts: &[u16],
-    held: &[u64],
-    candidates: &[u64],
-    makers: &[u16],
-    values: &[u16],
-    changed: &[u64],
-    registers: &[u16],
-    snoops: &[u16],
-    logs: &[u16],
-    history: &[u16],
-    lengths: &[u16],
-) -> bool
-    ensures { result ≡ fits s (lent used.now counts.now held.now candidates.now makers.now values.now changed.now registers.now snoops.now logs.now history.now lengths.now) }
+pub fn has_shape(s: Sizes, t: ReadTables) -> bool
+    ensures { result ≡ fits s (seen t.entry) }
 {
-    in_range(s)
-        & is_exact(
-            s, used, counts, held, candidates, makers, values, changed, registers, snoops, logs,
-            history, lengths,
-        )
+    in_range(s) & is_exact(s, t)
 }
 
 // Makes lent tables a fresh pool, whatever they held; 1 where a size or a length is wrong, and then nothing changes. Two wrong programs that the contract rules
 // out: one that leaves what stood in a table, and one that clears the tables of wrong lengths too.
-pub fn fresh(
-    s: Sizes,
-    used: &mut [u64],
-    counts: &mut [u16],
-    held: &mut [u64],
-    candidates: &mut [u64],
-    makers: &mut [u16],
-    values: &mut [u16],
-    changed: &mut [u64],
-    registers: &mut [u16],
-    snoops: &mut [u16],
-    logs: &mut [u16],
-    history: &mut [u16],
-    lengths: &mut [u16],
-    c: Collector,
-) -> Answered
-    ensures { made_fresh s (lent used.old counts.old held.old candidates.old makers.old values.old changed.old registers.old snoops.old logs.old history.old lengths.old) c
-        ≡ record { answer = result.answer; collector = result.collector; tables = lent used.new counts.new held.new candidates.new makers.new values.new changed.new registers.new snoops.new logs.new history.new lengths.new } }
+#[tactic(auto, unfolding(crate::specs::Fresh::made_fresh))]
+pub fn fresh(s: Sizes, t: &mut LentTables, c: Collector) -> Answered
+    ensures made { made_fresh s (contents t.old) c ≡ record { answer = result.answer; collector = result.collector; tables = contents t.new } }
+    ensures same { SameTables t.old t.new }
 {
-    if !has_shape(
-        s, used, counts, held, candidates, makers, values, changed, registers, snoops, logs,
-        history, lengths,
-    ) {
+    if !has_shape(s, t.to_read()) {
         return Answered {
             answer: Answer::Refused(Refusal::WrongSize),
             collector: c,
         };
     }
-    clear_marks(used);
-    clear(counts);
-    clear_marks(held);
-    clear_marks(candidates);
-    clear(makers);
-    clear(values);
-    clear_marks(changed);
-    clear(registers);
-    clear(snoops);
-    clear(logs);
-    clear(history);
-    clear(lengths);
+    t.used.fill(0);
+    t.counts.fill(0);
+    t.held.fill(0);
+    t.candidates.fill(0);
+    t.makers.fill(0);
+    t.values.fill(0);
+    t.changed.fill(0);
+    t.registers.fill(0);
+    t.snoops.fill(0);
+    t.logs.fill(0);
+    t.history.fill(0);
+    t.lengths.fill(0);
     Answered {
         answer: Answer::Fresh,
-        collector: Collector {
-            phase: 0,
-            position: 0,
-            closed: 0,
-        },
+        collector: Collector::default(),
     }
 }
 
@@ -136,5 +82,5 @@ pub fn fresh(
 pub fn free_records(n: u16, used: &[u64]) -> usize
     ensures { result ≡ free_in n used.now }
 {
-    wide(count_off(used, n))
+    usize::from(count_off(used, n))
 }

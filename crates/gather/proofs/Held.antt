@@ -1,9 +1,8 @@
 -- The held marks of the records in some registers, in their words.
---     length_record  a record's mark changes no number of words
 --     held_next      one register more
 --     held_marks     the words of the marks of the pool
 -- Assumes nothing.
-use Prim.Native.Nat.{ℕ, zero, suc, ◌+◌, ◌≤◌, ◌<◌}
+use Prim.Native.Nat.{ℕ, ◌+◌, ◌≤◌, ◌<◌}
 use mathlib.Core.Path.{◌≡◌, refl, ap, ◌∙◌}
 use mathlib.Core.Bool.{Bool, true}
 use mathlib.Core.List.{List, [], ◌∷◌}
@@ -17,12 +16,8 @@ use Rattle.rules.specs.Sound.{Each}
 use Rattle.laws.proofs.Lists.{length-with_record}
 use Rattle.tables.specs.Bits.{words_of, mark_record}
 use Rattle.tables.specs.Lie.{record_numbers}
-use Rattle.tables.proofs.Packed.{length_marked, record_written}
+use Rattle.tables.proofs.Packed.{record_written}
 use Rattle.gather.specs.Raw.{held_in}
-
-pub length_record : (words : List ℕ) (a : ℕ) (b : Bool) → length (mark_record words a b) ≡ length words
-length_record words zero b = refl
-length_record words (suc i) b = length_marked words i b
 
 pub held_next : (registers held : List ℕ) (r : ℕ) → r < length registers
     → held_in (drop (r + 1) registers) (mark_record held (get_or registers r 0) true) ≡ held_in (drop r registers) held

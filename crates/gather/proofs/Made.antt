@@ -1,17 +1,15 @@
 -- The makers of the records of which a worker is maker, in their table.
 --     mapped_next                a table that is changed in place, one place more
---     byte_low, fits-cleared     what the code computes at one place, without a case, has 16 bits
 --     below_next, below_all      the table, of which the places below one are done: one place more, and all
 -- Assumes nothing.
-use Prim.Native.Nat.{ℕ, zero, suc, ◌+◌, ◌-◌, ◌*◌, ◌≤◌, ◌<◌}
+use Prim.Native.Nat.{ℕ, zero, suc, ◌+◌, ◌*◌, ◌≤◌, ◌<◌}
 use mathlib.Core.Path.{◌≡◌, refl, ap, ◌∙◌}
-use mathlib.Core.Bool.{Bool, true, false, cond}
+use mathlib.Core.Bool.{Bool, true, false, cond, not}
 use mathlib.Core.List.{List, [], ◌∷◌, ◌++◌, map, append-nil}
 use native.Mathlib.Nat.{le_of_suc-le-suc, not-suc-le-zero}
 use native.Mathlib.Numerals.{add-one}
 use native.Mathlib.Omega.{arith}
-use mir.Syntax.{w16}
-use mir.Val.{Fits, bool_byte}
+use mir.Val.{bool_byte}
 use lib.Dec.{eqb}
 use lib.ListN.{length, get_or, take, drop, set, drop_of_length-le}
 use lib.Seq.{take_all}
@@ -29,25 +27,17 @@ mapped_next f (x ∷ xs) (suc i) h = ap (λ t. x ∷ t) (mapped_next f xs i (le_
 
 -- ---- one place, without a case: what is multiplied by 0 is gone, and what is multiplied by 1 stays
 
-cleared : (own : Bool) (m : ℕ) → m * (1 - bool_byte own) ≡ cond own 0 m
+cleared : (own : Bool) (m : ℕ) → m * bool_byte (not own) ≡ cond own 0 m
 cleared true m = omega arith
 cleared false m = omega arith
 
-pub byte_low : (own : Bool) → bool_byte own ≤ 1
-byte_low true = omega arith
-byte_low false = omega arith
-
-pub fits-cleared : (own : Bool) (m : ℕ) → Fits w16 m → Fits w16 (m * (1 - bool_byte own))
-fits-cleared true m h = omega arith
-fits-cleared false m h = omega (arith, h)
-
 -- ---- the places below one are done
 
-pub below_next : (w : ℕ) (ms : List ℕ) (i : ℕ) → i < length ms → (own : Bool) → eqb (get_or ms i 0) (w + 1) ≡ own
-    → let next : List ℕ = set ms i (get_or ms i 0 * (1 - bool_byte own)) in take (i + 1) next ++ unmade w (drop (i + 1) next) ≡ take i ms ++ unmade w (drop i ms)
+pub below_next : (w : ℕ) (ms : List ℕ) (i r : ℕ) → i < length ms → r ≡ bool_byte (not (eqb (get_or ms i 0) (w + 1)))
+    → let next : List ℕ = set ms i (get_or ms i 0 * r) in take (i + 1) next ++ unmade w (drop (i + 1) next) ≡ take i ms ++ unmade w (drop i ms)
 unfolding unmade
-below_next w ms i h own e =
-    rw (cleared own (get_or ms i 0), add-one i, ← e) (mapped_next (λ m. cond (eqb m (w + 1)) 0 m) ms i h)
+below_next w ms i r h e =
+    rw (e, cleared (eqb (get_or ms i 0) (w + 1)) (get_or ms i 0), add-one i) (mapped_next (λ m. cond (eqb m (w + 1)) 0 m) ms i h)
 
 pub below_all : (w : ℕ) (ms : List ℕ) (i : ℕ) → length ms ≤ i → take i ms ++ unmade w (drop i ms) ≡ ms
 unfolding unmade

@@ -2,6 +2,7 @@
 --     joined_front, joined_part     blocks of which one is written from its front, and the front of a block in the table
 --     logs_emptied, history_joined, lengths_taken     what becomes of the logs, the history and their lengths, table by table
 --     taken_in, log_taken     the tables of the pool after it
+--     lengths_here, part_here     what the code reads and lends
 --     Taken, takes_on_lem        the step on known tables, with what it does to the records
 -- Assumes nothing.
 use Prim.Native.Nat.{ℕ, zero, suc, ◌+◌, ◌*◌, ◌≤◌, ◌<◌}
@@ -20,6 +21,7 @@ use Rattle.rules.specs.Pool.{Entry, Pool, log_at, with_log, with_history}
 use Rattle.rules.specs.Collect.{made_by, takes, phases}
 use Rattle.rules.specs.Sound.{ShapedWorkers}
 use Rattle.laws.proofs.Lists.{map-set, map_at}
+use Rattle.laws.proofs.Number.{links_most}
 use Rattle.soundness.proofs.Known.{history_has_room}
 use Rattle.tables.specs.Tables.{Tables, put_candidates, put_makers, put_logs, put_history, put_lengths}
 use Rattle.tables.specs.Bits.{words_of, with_standing}
@@ -32,7 +34,7 @@ use Rattle.tables.proofs.RoundTrip.{sized_logs, known_back}
 use Rattle.tables.proofs.Standing.{with_marks}
 use Rattle.tables.proofs.Stand.{log_length, history_length}
 use Rattle.gather.specs.Raw.{unmade}
-use Rattle.gather.proofs.Here.{position_known}
+use Rattle.gather.proofs.Here.{position_known, room_known}
 use Rattle.gather.proofs.Moves.{called, Onward, moves_on}
 
 -- ---- the front of a block
@@ -118,6 +120,31 @@ log_taken s p w shaped k fits =
     ((lengths_taken (links s) logs w inside p.history
     ∙ ap (λ (last : ℕ). set (set (tables_of s p).lengths w 0) last (length p.history + length (log_at p w))) shaped.log) j)
     (tables_of s p)))
+
+-- ---- what the code reads and lends
+
+module _ {s : Sizes} {t : Tables} {c : Collector} (known : Known s t c) (e : c.phase ≡ 2) where
+  -- the two lengths: the history has room for the log
+  pub lengths_here : (worker last : ℕ) → worker ≡ c.position → last ≡ s.w
+      → let ns = t.lengths in
+      (get_or ns worker 0 ≡ get_or ns c.position 0)
+      × (get_or ns last 0 ≡ get_or ns s.w 0)
+      × (get_or ns s.w 0 + get_or ns c.position 0 ≤ links s)
+      × (links s ≤ 8208)
+      × (worker < length ns)
+  lengths_here worker last first second =
+      let ns = t.lengths in (
+        ap (λ (i : ℕ). get_or ns i 0) first,
+        ap (λ (i : ℕ). get_or ns i 0) second,
+        room_known known e,
+        links_most s known.sizes,
+        omega (arith, position_known known 2 e, known.exact.lengths),
+      )
+
+  -- the worker's log, a part of the logs
+  pub part_here : (from n : ℕ) → (from ≡ c.position * room s) × (from + room s ≤ s.w * room s) → n ≡ get_or t.lengths c.position 0
+      → (from + n * 2 ≡ c.position * room s + get_or t.lengths c.position 0 * 2) × (c.position * room s + get_or t.lengths c.position 0 * 2 ≤ length t.logs)
+  part_here from n begin many = (omega (arith, begin.0), omega (arith, begin, room_known known e, known.exact.logs))
 
 -- ---- the step
 

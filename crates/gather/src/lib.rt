@@ -2,6 +2,8 @@
 // docs/DECISIONS.md).
 //     opens, snoops, takes, clears, scans    the steps; each has the name of its definition in rules/specs/Collect.antt
 //     made_by, clear_maker, held_by          what phases 2 and 4 do to the records
+// Each function is lent only the tables that it touches, each as a parameter of its own: a rule of this project (decision 26), so that its contract says of no other table
+// anything.
 #![tactic(auto)]
 
 ghost use Rattle.std.specs.Prelude.{◌≡◌, ◌+◌, ◌*◌, ◌≤◌, length};
@@ -12,11 +14,10 @@ ghost use Rattle.gather.specs.Lent.{snoops_on, takes_on, clears_on, scans_on};
 ghost use Rattle.gather.specs.Raw.{unmade, held_in};
 
 use advance::{onward, stepped};
-use rules::{Answered, Collector, LinkNumber, RecordNumber, Sizes};
+use rules::{Answered, Collector, RecordNumber, Sizes};
 use tables::flag::set_flag;
-use tables::list::{clear, copy};
 use tables::mark::{mark_standing, set_mark};
-use tables::place::{log_place, register_place, wide};
+use tables::place::{log_place, record_place, register_place};
 
 // "Phase 0: open the cycle: phase 1, position 0."
 pub fn opens(s: Sizes, c: Collector) -> Answered
@@ -31,8 +32,8 @@ pub fn snoops(s: Sizes, snoops: &mut [u16], lengths: &[u16], c: Collector) -> An
     requires { InPhase 1 s (snoops_on snoops.old lengths.now) c }
     ensures { Steps 1 s (snoops_on snoops.old lengths.now) c result (snoops_on snoops.new lengths.now) }
 {
-    set_flag(snoops, wide(c.position), true);
-    let entries = lengths[wide(s.w)];
+    set_flag(snoops, usize::from(c.position), true);
+    let entries = lengths[usize::from(s.w)];
     stepped(onward(c, s.w, entries))
 }
 
@@ -41,13 +42,8 @@ fn clear_maker(makers: &mut [u16], w: u16)
     requires { w ≤ 7 }
     ensures { makers.new ≡ unmade w makers.old }
 {
-    let maker = w + 1;
-    let mut i = 0;
-    while i < makers.len() {
-        let made = (makers[i] == maker) as u16;
-        let other = 1 - made;
-        makers[i] = makers[i] * other;
-        i += 1;
+    for maker in makers.iter_mut() {
+        *maker *= u16::from(*maker != w + 1);
     }
 }
 
@@ -75,14 +71,15 @@ pub fn takes(
         (takes_on candidates.new makers.new logs.new history.new lengths.new) }
 {
     let w = c.position;
-    let worker = wide(w);
-    let last = wide(s.w);
+    let worker = usize::from(w);
+    let last = usize::from(s.w);
     let n = lengths[worker];
     let m = lengths[last];
     let from = log_place(s, w);
-    let to = from + wide(n) * 2;
-    copy(history, wide(m) * 2, &logs[from..to]);
-    clear(&mut logs[from..to]);
+    let log = &mut logs[from..from + usize::from(n) * 2];
+    let end = usize::from(m) * 2;
+    history[end..end + log.len()].copy_from_slice(log);
+    log.fill(0);
     lengths[worker] = 0;
     lengths[last] = m + n;
     made_by(candidates, makers, w);
@@ -100,10 +97,9 @@ pub fn clears(
     requires { InPhase 3 s (clears_on changed.old history.now lengths.now) c }
     ensures { Steps 3 s (clears_on changed.old history.now lengths.now) c result (clears_on changed.new history.now lengths.now) }
 {
-    let entries = lengths[wide(s.w)];
-    let at = wide(c.position) * 2;
-    let l = LinkNumber(history[at]);
-    set_mark(changed, wide(l.0), false);
+    let entries = lengths[usize::from(s.w)];
+    let [link, _] = history.as_chunks::<2>().0[usize::from(c.position)];
+    set_mark(changed, usize::from(link), false);
     stepped(onward(c, entries, entries))
 }
 
@@ -112,13 +108,10 @@ fn held_by(held: &mut [u64], registers: &[u16])
     requires { Each (λ a. a ≤ length held.old * 64) registers.now }
     ensures { held.new ≡ held_in registers.now held.old }
 {
-    let mut r = 0;
-    while r < registers.len() {
-        let a = RecordNumber(registers[r]);
-        if a.0 != 0 {
-            set_mark(held, wide(a.0) - 1, true);
+    for &a in registers {
+        if a != 0 {
+            set_mark(held, record_place(RecordNumber(a)), true);
         }
-        r += 1;
     }
 }
 
@@ -136,10 +129,9 @@ pub fn scans(
         (scans_on held.new registers.now snoops.new lengths.now) }
 {
     let w = c.position;
-    set_flag(snoops, wide(w), false);
+    set_flag(snoops, usize::from(w), false);
     let from = register_place(s, w, 0);
-    let to = from + wide(s.r);
-    held_by(held, &registers[from..to]);
-    let entries = lengths[wide(s.w)];
+    held_by(held, &registers[from..from + usize::from(s.r)]);
+    let entries = lengths[usize::from(s.w)];
     stepped(onward(c, s.w, entries))
 }

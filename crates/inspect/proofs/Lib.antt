@@ -1,5 +1,6 @@
 -- The laws that the proofs here cite.
 --     Tested     a test of each number of a table, as a loop adds it up
+--     Chunks     a list cut into chunks
 --     Most       numbers of a table that are at most another
 --     Tallies    the tallies after some links, link by link
 --     Noting     entries that are noted one after another
@@ -8,6 +9,7 @@
 --     Seen       what was seen of 64 links, as a word
 --     Links      the check of the links, put together from its parts
 pub mod Tested
+pub mod Chunks
 pub mod Most
 pub mod Tallies
 pub mod Noting

@@ -7,7 +7,7 @@
 -- Assumes nothing.
 use Prim.Native.Nat.{ℕ, ◌-◌, ◌*◌, ◌≤◌, ◌<◌, zero-le}
 use mathlib.Core.Path.{◌≡◌, refl, sym, ap, ◌∙◌}
-use mathlib.Core.Bool.{Bool, true, false, cond, ◌&&◌, and-true, and-false}
+use mathlib.Core.Bool.{Bool, true, false, cond, ◌&&◌}
 use mathlib.Core.List.{List, flatten}
 use native.Mathlib.Omega.{arith}
 use native.Mathlib.Nat.{le_refl}
@@ -27,9 +27,8 @@ use Rattle.clauses.specs.IsSound.{every, is_packed, is_zero}
 use Rattle.clauses.specs.Entered.{Noted, once, outstanding, entered_all}
 use Rattle.clauses.specs.Tallied.{tallied}
 use Rattle.clauses.specs.Inspected.{phase_fits, counted_to, uncleared_from, padded_logs, valued, noted_links, marks_match, counts_match, links_fit}
-use Rattle.inspect.specs.Lent.{Fits}
+use Rattle.inspect.specs.Parts.{Fits}
 use Rattle.tables.proofs.Rooms.{entries-take, entries_part, entries_between}
-use Rattle.inspect.proofs.Noting.{Gives, entered-after, valued-after}
 
 -- ---- where the history is parted
 
@@ -98,78 +97,45 @@ module _ {s : Sizes} {t : Tables} {c : Collector} (fits : Fits s t c) {to from e
 
 -- ---- the parts together
 
-abbrev zeros : List ℕ
-zeros = replicate 8208 0
-
-and_late : (a b c d e : Bool) → (a && (b && c) && d && e) ≡ (a && b && d && e && c)
-and_late false b c d e = refl
-and_late true false c d e = refl
-and_late true true true d e = sym (and-true (d && e))
-and_late true true false d e = sym (and-false (d && e))
-
--- what `enter` tells of a part of the history
-part_noted : (s : Sizes) {many : ℕ} → many ≡ links s → (by : ℕ) {es es' : List Entry} → es ≡ es' → (seen last : List ℕ) (tested : Bool) {ok : Bool} {seen' last' : List ℕ}
-    → Gives (entered_all many s.n by es') seen last ok seen' last'
-    → entered_all (links s) s.n by es (record { ok = tested; seen = seen; last = last }) ≡ record { ok = tested && ok; seen = seen'; last = last' }
-part_noted s same by {es} {es'} e seen last tested h =
-    ap (λ (xs : List Entry). entered_all (links s) s.n by xs (record { ok = tested; seen = seen; last = last })) e
-    ∙ entered-after (links s) s.n by es' seen last tested same h
-
--- what `enter_logs` notes
-abbrev logs_noted : Sizes → Tables → (seen last : List ℕ) → Noted
-logs_noted s t seen last = entered_all (links s) s.n 1 (flatten (logs_in s t.logs t.lengths)) (record { ok = true; seen = seen; last = last })
-
 module _ {s : Sizes} {t : Tables} {c : Collector} (fits : Fits s t c) {to from end many : ℕ} (cut : Cut s t c to from end) (same : many ≡ links s)
-    {counted taken cleared uncleared : Bool} {seen₁ last₁ last₂ seen₃ last₃ seen₄ last₄ seen₅ last₅ : List ℕ}
-    (first : Gives (entered_all many s.n once (entries to (take (to * 2) t.history))) zeros zeros counted seen₁ last₁)
-    (second : Gives (valued s.n t.values) seen₁ last₁ taken seen₁ last₂)
-    (third : ((logs_noted s t seen₁ last₂).seen ≡ seen₃) × ((logs_noted s t seen₁ last₂).last ≡ last₃))
-    (fourth : Gives (entered_all many s.n once (entries (from - to) (take (from * 2 - to * 2) (drop (to * 2) t.history)))) seen₃ last₃ cleared seen₄ last₄)
-    (fifth : Gives (entered_all many s.n outstanding (entries (end - from) (take (end * 2 - from * 2) (drop (from * 2) t.history)))) seen₄ last₄ uncleared seen₅ last₅) where
-  abbrev logged : Bool
-  logged = (logs_noted s t seen₁ last₂).ok
-
-  links_noted : noted_links s t c ≡ record { ok = counted && taken && logged && cleared && uncleared; seen = seen₅; last = last₅ }
+    {counted taken logged cleared all : Noted}
+    (first : entered_all (links s) s.n once (entries to (take (to * 2) t.history)) (record { ok = true; seen = replicate 8208 0; last = replicate 8208 0 }) ≡ counted)
+    (second : valued s.n t.values counted ≡ taken)
+    (third : entered_all (links s) s.n 1 (flatten (logs_in s t.logs t.lengths)) taken ≡ logged)
+    (fourth : entered_all (links s) s.n once (entries (from - to) (take (from * 2 - to * 2) (drop (to * 2) t.history))) logged ≡ cleared)
+    (fifth : entered_all (links s) s.n outstanding (entries (end - from) (take (end * 2 - from * 2) (drop (from * 2) t.history))) cleared ≡ all) where
+  links_noted : noted_links s t c ≡ all
   unfolding noted_links
   links_noted =
       let n : ℕ = entries_of s t in
       let history : List Entry = entries n t.history in
-      let values : Noted → Noted = valued s.n t.values in
-      let logs : Noted → Noted = entered_all (links s) s.n 1 (flatten (logs_in s t.logs t.lengths)) in
-      let middle : Noted → Noted = entered_all (links s) s.n once (drop (counted_to c) (take (uncleared_from c n) history)) in
-      let rest : Noted → Noted = entered_all (links s) s.n outstanding (drop (uncleared_from c n) history) in
-      ap (λ (x : Noted). rest (middle (logs (values x)))) (part_noted s same once (counted_part fits cut) zeros zeros true first)
-      ∙ ap (λ (x : Noted). rest (middle (logs x))) (valued-after s.n t.values seen₁ last₁ counted second)
-      ∙ ap (λ (x : Noted). rest (middle x))
-      (entered-after (links s) s.n 1 _ seen₁ last₂ (counted && taken) refl (λ j. record { ok = logged; seen = third.0 j; last = third.1 j }))
-      ∙ ap rest (part_noted s same once (cleared_part fits cut) seen₃ last₃ (counted && taken && logged) fourth)
-      ∙ part_noted s same outstanding (uncleared_part fits cut) seen₄ last₄ (counted && taken && logged && cleared) fifth
+      let enter : ℕ → List Entry → Noted → Noted = entered_all (links s) s.n in
+      let logs : Noted → Noted = enter 1 (flatten (logs_in s t.logs t.lengths)) in
+      let middle : Noted → Noted = enter once (drop (counted_to c) (take (uncleared_from c n) history)) in
+      let rest : Noted → Noted = enter outstanding (drop (uncleared_from c n) history) in
+      ap (λ (x : Noted). rest (middle (logs (valued s.n t.values x))))
+      (ap (λ (es : List Entry). enter once es (record { ok = true; seen = replicate 8208 0; last = replicate 8208 0 })) (counted_part fits cut) ∙ first)
+      ∙ ap (λ (x : Noted). rest (middle (logs x))) second
+      ∙ ap (λ (x : Noted). rest (middle x)) third
+      ∙ ap rest (ap (λ (es : List Entry). enter once es logged) (cleared_part fits cut) ∙ fourth)
+      ∙ ap (λ (es : List Entry). enter outstanding es cleared) (uncleared_part fits cut)
+      ∙ fifth
 
-  pub links_checked : {passed padded unused marked matched : Bool} {tally : List ℕ}
-      → passed ≡ (logged && padded_logs s t.logs t.lengths)
-      → padded ≡ every is_zero (take (length t.history - end * 2) (drop (end * 2) t.history))
+  pub links_checked : {padded zeros unused marked matched : Bool} {tally : List ℕ}
+      → padded ≡ padded_logs s t.logs t.lengths
+      → zeros ≡ every is_zero (take (length t.history - end * 2) (drop (end * 2) t.history))
       → unused ≡ is_packed many t.changed
-      → marked ≡ marks_match many t.changed seen₅
-      → tally ≡ tallied last₅ many (replicate 8320 0)
+      → marked ≡ marks_match many t.changed all.seen
+      → tally ≡ tallied all.last many (replicate 8320 0)
       → matched ≡ counts_match t.counts tally
-      → (counted && taken && passed && cleared && uncleared && padded && unused && marked && matched) ≡ links_fit s t c
+      → (all.ok && padded && zeros && unused && marked && matched) ≡ links_fit s t c
   unfolding links_fit
-  links_checked {passed} {padded} {unused} {marked} {matched} {tally} p z f m l k =
-      let logs : Bool = padded_logs s t.logs t.lengths in
-      ap (λ (b : Bool). b && padded && unused && marked && matched)
-      (ap (λ (b : Bool). counted && taken && b && cleared && uncleared) p ∙ and_late (counted && taken) logged logs cleared uncleared)
-      ∙ (λ j.
-      counted && taken && logged && cleared && uncleared
-      && logs
-      && (z ∙ ap (every is_zero) (rest_part fits cut)) j
-      && (f ∙ ap (λ (n : ℕ). is_packed n t.changed) same) j
-      && (m ∙ ap (λ (n : ℕ). marks_match n t.changed seen₅) same) j
-      && (k ∙ ap (counts_match t.counts) (l ∙ ap (λ (n : ℕ). tallied last₅ n (replicate 8320 0)) same)) j)
-      ∙ (λ j.
+  links_checked p z f m l k =
+      λ j.
       let x : Noted = sym links_noted j in
       x.ok
-      && logs
-      && every is_zero (drop (entries_of s t * 2) t.history)
-      && is_packed (links s) t.changed
-      && marks_match (links s) t.changed x.seen
-      && counts_match t.counts (tallied x.last (links s) (replicate 8320 0)))
+      && p j
+      && (z ∙ ap (every is_zero) (rest_part fits cut)) j
+      && (f ∙ ap (λ (n : ℕ). is_packed n t.changed) same) j
+      && (m ∙ (λ j. marks_match (same j) t.changed (sym links_noted j).seen)) j
+      && (k ∙ ap (counts_match t.counts) (l ∙ (λ j. tallied (sym links_noted j).last (same j) (replicate 8320 0)))) j

@@ -1,9 +1,9 @@
 -- The tallies after some links, link by link.
 --     Tallied                      what is known of them
---     none_yet, one_more           of no link, and of one link more
+--     none_yet, one_more           of no link, and of one link more, the i-th of four
 --     still_low                    none of their numbers is too large for one more
 -- Assumes nothing.
-use Prim.Native.Nat.{ℕ, suc, ◌+◌, ◌*◌, ◌%◌, ◌≤◌}
+use Prim.Native.Nat.{ℕ, suc, ◌+◌, ◌*◌, ◌%◌, ◌≤◌, ◌<◌}
 use mathlib.Core.Path.{◌≡◌, sym, ap, ◌∙◌, subst}
 use mathlib.Core.List.{List}
 use native.Mathlib.Omega.{arith}
@@ -24,14 +24,15 @@ pub still_low : {values tally : List ℕ} {l : ℕ} → Tallied values l tally �
 still_low {tally = tally} h low = most_more tally low h.most
 
 -- the link's value is raised in the tally that begins at its place
-pub one_more : {values tally next : List ℕ} (l m from value : ℕ) → m ≡ l + 1 → from ≡ l % 4 * 2080 → value ≡ get_or values l 0 → Tallied values l tally
-    → next ≡ raised tally (from + value % 2048) → Tallied values m next
+pub one_more : {values tally next : List ℕ} (q i : ℕ) {l m from value : ℕ} → i < 4 → l ≡ q * 4 + i → m ≡ l + 1 → from ≡ i * 2080 → value ≡ get_or values l 0
+    → Tallied values l tally → next ≡ raised tally (from + value % 2048) → Tallied values m next
 unfolding tallied
-one_more {values} {tally} l m from value follows begins stands h raises =
+one_more {values} {tally} q i {l} {m} {from} {value} low here follows begins stands h raises =
+    let place : from ≡ l % 4 * 2080 = omega arith in
     record {
       are =
           raises
-          ∙ (λ j. raised (h.are j) (begins j + stands j % 2048))
+          ∙ (λ j. raised (h.are j) (place j + stands j % 2048))
           ∙ ap (λ (n : ℕ). tallied values n (replicate 8320 0)) (let e : suc l ≡ m = omega arith in e);
       most = subst (Most m) (sym raises) (most_raised l m tally (from + value % 2048) 1 (omega arith) h.most);
     }

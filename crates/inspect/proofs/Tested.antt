@@ -1,20 +1,20 @@
--- A test of each number of a table, and of each place below another, as a loop adds it up.
---     every_more, every_all     of one more of the numbers, and of all
+-- A test of each number of a table, and of each place below another, as the code adds it up.
+--     every_folded              of all the numbers of a table
 --     every_each                what a test of all of them tells of each
 --     below_more, below_parts   of one place more, and of some places more
---     zero_more                 numbers of which each is 0, by their `or`
+--     below_same                of tests that agree there
+--     zero_folded               numbers of which each is 0, by their `or`
 -- Assumes nothing.
-use Prim.Native.Nat.{ℕ, zero, suc, ◌+◌, ◌≤◌, ◌<◌}
+use Prim.Native.Nat.{ℕ, zero, suc, ◌+◌, ◌<◌}
 use mathlib.Core.Path.{◌≡◌, refl, sym, ap, ◌∙◌}
 use mathlib.Core.Bool.{Bool, true, ◌&&◌, and-true, and_assoc}
-use mathlib.Core.List.{List, [], ◌∷◌, ◌++◌}
+use mathlib.Core.List.{List, [], ◌∷◌}
 use native.Mathlib.Omega.{arith}
 use native.Mathlib.Numerals.{add-one}
 use borrow.Author.Tests.{ne_eqb}
 use lib.Bits.{bit_or, or_add_and, and_le_r}
 use lib.Dec.{eqb}
-use lib.ListN.{length, get_or, take}
-use lib.Seq.{take-suc, take_all}
+use Rattle.std.proofs.Common.{fold}
 use Rattle.rules.specs.Sound.{Each}
 use Rattle.laws.proofs.Tests.{and_left, and_right}
 use Rattle.clauses.specs.IsSound.{every, below, is_zero}
@@ -22,26 +22,19 @@ use Rattle.clauses.specs.IsSound.{every, below, is_zero}
 -- ---- the numbers of a table
 
 module _ {A : Type 0} (test : A → Bool) where
-  every_one_more : (xs : List A) (x : A) → every test (xs ++ (x ∷ [])) ≡ (every test xs && test x)
+  every_folded_from : (b : Bool) (xs : List A) → fold (λ ok x. ok && test x) b xs ≡ (b && every test xs)
   unfolding every
-  every_one_more [] x = and-true (test x)
-  every_one_more (y ∷ xs) x = ap (λ b. test y && b) (every_one_more xs x) ∙ sym (and_assoc (test y) (every test xs) (test x))
+  every_folded_from b [] = sym (and-true b)
+  every_folded_from b (x ∷ xs) = every_folded_from (b && test x) xs ∙ and_assoc b (test x) (every test xs)
+
+  pub every_folded : (xs : List A) → fold (λ ok x. ok && test x) true xs ≡ every test xs
+  every_folded = every_folded_from true
 
   -- what passes the test has what the test tells
   pub every_each : (P : A → Type 0) → ((x : A) → test x ≡ true → P x) → (xs : List A) → every test xs ≡ true → Each P xs
   unfolding every
   every_each P tells [] h = tt
   every_each P tells (x ∷ xs) h = (tells x (and_left (test x) (every test xs) h), every_each P tells xs (and_right (test x) (every test xs) h))
-
-  module _ (xs : List A) (i : ℕ) {ok : Bool} (so_far : ok ≡ every test (take i xs)) where
-    pub every_more : (d : A) → i < length xs → (ok && test (get_or xs i d)) ≡ every test (take (i + 1) xs)
-    every_more d h =
-        ap (λ b. b && test (get_or xs i d)) so_far
-        ∙ sym (every_one_more (take i xs) (get_or xs i d))
-        ∙ ap (every test) (sym (take-suc xs i d h) ∙ ap (λ (n : ℕ). take n xs) (sym (add-one i)))
-
-    pub every_all : length xs ≤ i → ok ≡ every test xs
-    every_all h = so_far ∙ ap (every test) (take_all i xs h)
 
 -- ---- the places below another
 
@@ -57,6 +50,11 @@ below_parts test m (suc n) =
     ∙ ap (λ b. b && test (m + n)) (below_parts test m n)
     ∙ and_assoc (below m test) (below n (λ i. test (m + i))) (test (m + n))
 
+pub below_same : (n : ℕ) (f g : ℕ → Bool) → ((i : ℕ) → i < n → f i ≡ g i) → below n f ≡ below n g
+unfolding below
+below_same zero f g same = refl
+below_same (suc n) f g same = λ j. below_same n f g (λ i h. same i (omega arith)) j && same n (omega arith) j
+
 -- ---- numbers that are 0
 
 -- an `or` is 0 where both numbers are
@@ -66,6 +64,11 @@ or_zero (suc a) b =
     ne_eqb (bit_or (suc a) b) 0 (λ e. omega (arith, or_add_and (suc a) b, and_le_r (suc a) b))
     ∙ sym (ap (λ x. x && eqb b 0) (ne_eqb (suc a) 0 (λ e. omega arith)))
 
-pub zero_more : (xs : List ℕ) (i any : ℕ) → eqb any 0 ≡ every is_zero (take i xs) → i < length xs
-    → eqb (bit_or any (get_or xs i 0)) 0 ≡ every is_zero (take (i + 1) xs)
-zero_more xs i any so_far h = or_zero any (get_or xs i 0) ∙ every_more is_zero xs i so_far 0 h
+zero_folded_from : (any : ℕ) (xs : List ℕ) → eqb (fold bit_or any xs) 0 ≡ (eqb any 0 && every is_zero xs)
+unfolding every
+zero_folded_from any [] = sym (and-true (eqb any 0))
+zero_folded_from any (x ∷ xs) =
+    zero_folded_from (bit_or any x) xs ∙ ap (λ b. b && every is_zero xs) (or_zero any x) ∙ and_assoc (eqb any 0) (eqb x 0) (every is_zero xs)
+
+pub zero_folded : (xs : List ℕ) → eqb (fold bit_or 0 xs) 0 ≡ every is_zero xs
+zero_folded = zero_folded_from 0

@@ -5,57 +5,45 @@
 //     at_most, all_zero                          numbers that are at most another, and that are 0
 //     unused_off                                 words whose unused bits are 0
 //     phase_fits, counted_to, uncleared_from     the collector's record, and where it parts the history
+//     Notes                                      what is noted of each link: of the entries of a list, of all logs, and of the links' values
 //     place_of                                   the place of a link
-//     enter, enter_logs, take_values             the entries of a list, of all logs, and the links' values are noted
-//     marks_match, word_matches                  each changed mark against what was seen of its link
-//     whole_matches, seen_once, seen_word        64 of them at once
-//     tally_link, tally_fours, tally_links       how many links count for each record
+//     marks_match, whole_matches, rest_matches   each changed mark against what was seen of its link, word by word, and of the last word
+//     seen_once                                  64 links at once
+//     tally_link, tally_links                    how many links count for each record
 //     counts_match                               each count against the tally of its record
 //     numbers_fit, links_fit                     the parts of the check
 #![tactic(auto)]
 
-ghost use Rattle.std.specs.Prelude.{◌≡◌, true, ◌&&◌, ℕ, ◌+◌, ◌*◌, ◌%◌, ◌≤◌, ◌<◌, leb, length, get_or, drop, replicate};
-ghost use mathlib.Core.List.{List, map, flatten};
+ghost use Rattle.std.specs.Prelude.{◌≡◌, true, ◌&&◌, ℕ, ◌+◌, ◌*◌, ◌%◌, ◌≤◌, ◌<◌, leb, length, get_or, replicate};
+ghost use mathlib.Core.List.{flatten};
 ghost use Rattle.rules.specs.Size.{in_range, links};
 ghost use Rattle.rules.specs.Sound.{Each};
-ghost use Rattle.tables.specs.Bits.{number, word_count};
-ghost use Rattle.tables.specs.Tables.{Tables, lent};
-ghost use Rattle.tables.specs.Lie.{entries, room, logs_in};
+ghost use Rattle.tables.specs.Bits.{word_count};
+ghost use Rattle.tables.specs.Lent.{seen};
 ghost use Rattle.tables.specs.Known.{Exact};
 ghost use Rattle.clauses.specs.IsSound.{every, below, is_packed, is_zero};
-ghost use Rattle.clauses.specs.Entered.{RoomFor, place_of, entered_all};
+ghost use Rattle.clauses.specs.Entered.{place_of};
 ghost use Rattle.clauses.specs.Tallied.{raised, tallied};
-ghost use Rattle.clauses.specs.Inspected.{phase_fits, counted_to, uncleared_from, padded_logs, valued, marks_match, counts_match, links_fit, numbers_fit, inspected};
-ghost use Rattle.inspect.specs.Lent.{numbers_on, links_on, matches, is_once, is_standing, LinksToFit};
+ghost use Rattle.clauses.specs.Inspected.{phase_fits, counted_to, uncleared_from, marks_match, counts_match, links_fit, numbers_fit, inspected};
+ghost use Rattle.inspect.specs.Parts.{matches, is_once, Fits};
 
 use rules::{Collector, Sizes};
-use tables::mark::has_bit;
-use tables::place::{link_count, log_place, wide};
+use tables::lent::ReadTables;
+use tables::mark::{has_bit, word_of};
+use tables::place::{link_count, log_place};
 
 // Every number of a table is at most another.
 fn at_most(xs: &[u16], most: u16) -> bool
     ensures { result ≡ every (λ n. leb n most) xs.now }
 {
-    let mut ok = true;
-    let mut i = 0;
-    while i < xs.len() {
-        ok = ok & (xs[i] <= most);
-        i += 1;
-    }
-    ok
+    xs.iter().fold(true, |ok, x| ok & (*x <= most))
 }
 
-// Every number of a table is 0.
+// Every number of a table is 0: their `or` is. `at_most` of 0 is slower.
 fn all_zero(xs: &[u16]) -> bool
     ensures { result ≡ every is_zero xs.now }
 {
-    let mut any = 0;
-    let mut i = 0;
-    while i < xs.len() {
-        any = any | xs[i];
-        i += 1;
-    }
-    any == 0
+    xs.iter().fold(0, |any, x| any | *x) == 0
 }
 
 // "A sound pool has the unused bits at 0" (document 02, request 9): of n marks in their words only the last word can have some.
@@ -63,20 +51,17 @@ fn unused_off(words: &[u64], n: u16) -> bool
     requires { length words.now ≡ word_count n }
     ensures { result ≡ is_packed n words.now }
 {
-    let end = wide(n);
+    let end = usize::from(n);
     let rest = end % 64;
-    if rest == 0 {
-        return true;
-    }
-    words[end / 64] >> rest == 0
+    rest == 0 || words[end / 64] >> rest == 0
 }
 
 // Phase and position fit each other and the number of entries in the history.
+#[tactic(auto, unfolding(clauses::specs::Inspected::phase_fits))]
 fn phase_fits(s: Sizes, c: Collector, entries: u16) -> bool
     ensures { result ≡ phase_fits s c entries }
 {
-    let phase = c.phase;
-    match phase {
+    match c.phase {
         0 | 6 => (c.position == 0) & (entries == 0),
         1 => (c.position < s.w) & (entries == 0),
         2 | 4 => c.position < s.w,
@@ -86,185 +71,146 @@ fn phase_fits(s: Sizes, c: Collector, entries: u16) -> bool
 }
 
 // How many entries of the history are counted.
+#[tactic(auto, unfolding(clauses::specs::Inspected::counted_to))]
 fn counted_to(c: Collector) -> u16
     ensures { result ≡ counted_to c }
 {
-    if c.phase == 5 { c.position } else { 0 }
+    match c.phase {
+        5 => c.position,
+        _ => 0,
+    }
 }
 
 // Behind how many entries the uncleared part of the history begins.
+#[tactic(auto, unfolding(clauses::specs::Inspected::uncleared_from))]
 fn uncleared_from(c: Collector, entries: u16) -> u16
     ensures { result ≡ uncleared_from c entries }
 {
-    if c.phase == 2 {
-        return 0;
+    match c.phase {
+        2 => 0,
+        3 => c.position,
+        _ => entries,
     }
-    if c.phase == 3 {
-        return c.position;
-    }
-    entries
 }
 
 // The place of a link. A number past the last has the first, and then the test has failed.
+#[tactic(auto, unfolding(clauses::specs::Entered::place_of))]
 fn place_of(link: u16) -> usize
     ensures { (result ≡ place_of link) × (result < 8208) }
 {
-    if link < 8208 {
-        return wide(link);
-    }
-    0
+    if link < 8208 { usize::from(link) } else { 0 }
 }
 
-// The entries of a list are in range; each raises what was seen of its link, and is the last that is known of it.
-fn enter(
-    seen: &mut [u32; 8208],
-    last: &mut [u16; 8208],
-    list: &[u16],
-    links: u16,
-    records: u16,
-    by: u32,
-) -> bool
-    requires { RoomFor seen.old (length list.now * by) }
-    ensures { (n : ℕ) → length list.now ≡ n * 2
-        → entered_all links records by (entries n list.now) (record { ok = true; seen = seen.old; last = last.old })
-        ≡ record { ok = result; seen = seen.new; last = last.new } }
-{
-    let mut ok = true;
-    let mut i = 0;
-    while i + 1 < list.len() {
-        let link = list[i];
-        let old = list[i + 1];
-        ok = ok & (link < links) & (old <= records);
-        let place = place_of(link);
-        seen[place] = seen[place] + by;
-        last[place] = old;
-        i += 2;
-    }
-    ok
+// What is noted of each link. There is a place for each of 8,208 links, the most that a pool has. `seen` and `last` are two arrays and not one of pairs: `marks_match`
+// takes `seen` by 64 links of a word at a time, and `take_values` copies the links' values over `last` as a whole.
+#[derive(Drop)]
+struct Notes {
+    // every number was in range
+    ok: bool,
+    // how often each link stood in the logs and the uncleared history, and in the history
+    seen: [u32; 8208],
+    // the last value that is known of each link
+    last: [u16; 8208],
 }
 
-// The entries of all logs, and 0 past their lengths.
-fn enter_logs(
-    s: Sizes,
-    seen: &mut [u32; 8208],
-    last: &mut [u16; 8208],
-    logs: &[u16],
-    lengths: &[u16],
-) -> bool
-    requires { (in_range s ≡ true) × (length logs.now ≡ s.w * room s) × (length lengths.now ≡ s.w + 1) × Each (λ n. n ≤ links s) lengths.now × RoomFor seen.old 131072 }
-    ensures { let noted = entered_all (links s) s.n 1 (flatten (logs_in s logs.now lengths.now)) (record { ok = true; seen = seen.old; last = last.old }) in
-        (result ≡ (noted.ok && padded_logs s logs.now lengths.now)) × (noted.seen ≡ seen.new) × (noted.last ≡ last.new) }
-{
-    let links = link_count(s);
-    let room = wide(links) * 2;
-    let mut ok = true;
-    let mut w = 0;
-    while w < s.w {
-        let from = log_place(s, w);
-        let n = lengths[wide(w)];
-        let to = from + wide(n) * 2;
-        let end = from + room;
-        let entered = enter(seen, last, &logs[from..to], links, s.n, 1);
-        let padded = all_zero(&logs[to..end]);
-        ok = ok & entered & padded;
-        w += 1;
+impl Notes {
+    ghost use Rattle.tables.specs.Lie.{entries, room, logs_in};
+    ghost use Rattle.clauses.specs.Entered.{RoomFor, entered_all};
+    ghost use Rattle.clauses.specs.Inspected.{valued, padded_logs};
+    ghost use Rattle.inspect.specs.Parts.{noted};
+
+    // The entries of a list are in range; each raises what was seen of its link, and is the last that is known of it.
+    #[tactic(auto, unfolding(tables::specs::Lie::entries, clauses::specs::Entered::entered_all))]
+    fn enter(&mut self, s: Sizes, list: &[u16], by: u32)
+        requires { (in_range s ≡ true) × RoomFor self.old.seen (length list.now * by) }
+        ensures { (n : ℕ) → length list.now ≡ n * 2 → entered_all (links s) s.n by (entries n list.now) (noted self.old) ≡ noted self.new }
+    {
+        let links = link_count(s);
+        // A local in the loop, for as a field it is slower.
+        let mut ok = self.ok;
+        for [link, old] in list.as_chunks::<2>().0 {
+            ok &= (*link < links) & (*old <= s.n);
+            let place = place_of(*link);
+            self.seen[place] += by;
+            self.last[place] = *old;
+        }
+        self.ok = ok;
     }
-    ok
+
+    // The links' values, each a record number, are the last that is known of each link.
+    fn take_values(&mut self, values: &[u16], records: u16)
+        requires { length values.now ≤ 8208 }
+        ensures { valued records values.now (noted self.old) ≡ noted self.new }
+    {
+        self.ok &= at_most(values, records);
+        self.last[..values.len()].copy_from_slice(values);
+    }
+
+    // The entries of all logs, and whether 0 stands past their lengths.
+    fn enter_logs(&mut self, s: Sizes, logs: &[u16], lengths: &[u16]) -> bool
+        requires { (in_range s ≡ true) × (length logs.now ≡ s.w * room s) × (length lengths.now ≡ s.w + 1) × Each (λ n. n ≤ links s) lengths.now × RoomFor self.old.seen 131072 }
+        ensures entered { entered_all (links s) s.n 1 (flatten (logs_in s logs.now lengths.now)) (noted self.old) ≡ noted self.new }
+        ensures padded { result ≡ padded_logs s logs.now lengths.now }
+    {
+        let room = usize::from(link_count(s)) * 2;
+        let mut padded = true;
+        for w in 0..s.w {
+            let from = log_place(s, w);
+            let to = from + usize::from(lengths[usize::from(w)]) * 2;
+            self.enter(s, &logs[from..to], 1);
+            padded &= all_zero(&logs[to..from + room]);
+        }
+        padded
+    }
 }
 
-// The links' values, each a record number, are the last that is known of each link.
-fn take_values(last: &mut [u16; 8208], values: &[u16], records: u16) -> bool
-    requires { (length values.now ≤ 8208) × (length last.old ≡ 8208) }
-    ensures { (seen : List ℕ) → valued records values.now (record { ok = true; seen = seen; last = last.old }) ≡ record { ok = result; seen = seen; last = last.new } }
+// The changed marks of the links of a word that is not whole, each against what was seen of its link.
+#[tactic(auto, using(crate::proofs::Tested::below_more), unfolding(clauses::specs::IsSound::below))]
+fn rest_matches(word: u64, seen: &[u32]) -> bool
+    requires { length seen.now ≤ 64 }
+    ensures { result ≡ below (length seen.now) (matches word seen.now) }
 {
     let mut ok = true;
-    let mut l = 0;
-    while l < values.len() {
-        let value = values[l];
-        ok = ok & (value <= records);
-        last[l] = value;
-        l += 1;
-    }
-    ok
-}
-
-// The changed marks of so many links of a word, each against what was seen of its link.
-fn word_matches(changed: &[u64], seen: &[u32; 8208], at: usize, many: usize) -> bool
-    requires { (at < length changed.now) × (many ≤ 64) × (at * 64 + many ≤ 8208) }
-    ensures { result ≡ below many (λ i. matches changed.now seen.now (at * 64 + i)) }
-{
-    let word = changed[at];
-    let from = at * 64;
-    let mut ok = true;
-    let mut i = 0;
-    while i < many {
-        let times = seen[from + i];
-        let mark = has_bit(word, i) as u32;
-        ok = ok & ((times % 131072 == mark) & (times < 262144));
-        i += 1;
+    for (i, times) in seen.iter().enumerate() {
+        let mark = u32::from(has_bit(word, i));
+        ok &= (*times % 131072 == mark) & (*times < 262144);
     }
     ok
 }
 
 // Of 64 links none was seen twice among the logs and the uncleared history, nor in the history.
-fn seen_once(seen: &[u32; 8208], from: usize) -> bool
-    requires { from + 64 ≤ 8208 }
-    ensures { result ≡ below 64 (λ i. is_once (get_or seen.now (from + i) 0)) }
+fn seen_once(seen: &[u32; 64]) -> bool
+    ensures { result ≡ every is_once seen.now }
 {
-    let mut ok = true;
-    let mut i = 0;
-    while i < 64 {
-        let times = seen[from + i];
-        ok = ok & ((times % 131072 <= 1) & (times < 262144));
-        i += 1;
-    }
-    ok
+    seen.iter().fold(
+        true,
+        |ok, times| ok & ((*times % 131072 <= 1) & (*times < 262144)),
+    )
 }
 
-// The word of 64 links, those that were seen among the logs and the uncleared history: two halves side by side.
-fn seen_word(seen: &[u32; 8208], from: usize) -> u64
-    requires { from + 64 ≤ 8208 }
-    ensures { result ≡ number 64 (map is_standing (drop from seen.now)) }
+// The changed marks of a whole word: each link was seen at most once, and where it was, there is a mark. Mark by mark, as `rest_matches`, is slower.
+fn whole_matches(word: u64, seen: &[u32; 64]) -> bool
+    ensures { result ≡ below 64 (matches word seen.now) }
 {
-    let mut low = 0u32;
-    let mut high = 0u32;
-    let mut i = 0;
-    while i < 32 {
-        low = low | (((seen[from + i] % 131072 == 1) as u32) << i);
-        high = high | (((seen[from + 32 + i] % 131072 == 1) as u32) << i);
-        i += 1;
-    }
-    (low as u64) | ((high as u64) << 32)
-}
-
-// The changed marks of a whole word: each link was seen at most once, and where it was, there is a mark.
-fn whole_matches(changed: &[u64], seen: &[u32; 8208], at: usize) -> bool
-    requires { (at < length changed.now) × (at * 64 + 64 ≤ 8208) }
-    ensures { result ≡ below 64 (λ i. matches changed.now seen.now (at * 64 + i)) }
-{
-    let from = at * 64;
-    seen_once(seen, from) & (seen_word(seen, from) == changed[at])
+    seen_once(seen) & (word_of(|i| seen[i] % 131072 == 1) == word)
 }
 
 // Each changed mark is how often its link stands among the logs and the uncleared history, and no link stands twice in the history: word by word, and of the last
 // as many as are marks.
+#[tactic(auto, unfolding(clauses::specs::IsSound::below, clauses::specs::Inspected::marks_match))]
 fn marks_match(changed: &[u64], seen: &[u32; 8208], links: u16) -> bool
     requires { (links ≤ 8208) × (length changed.now ≡ word_count links) }
     ensures { result ≡ marks_match links changed.now seen.now }
 {
-    let end = wide(links);
-    let whole = end / 64;
+    let (whole, rest) = seen[..usize::from(links)].as_chunks::<64>();
     let mut ok = true;
-    let mut at = 0;
-    while at < whole {
-        ok = ok & whole_matches(changed, seen, at);
-        at += 1;
+    for (times, word) in whole.iter().zip(changed) {
+        ok &= whole_matches(*word, times);
     }
-    let rest = end % 64;
-    if rest == 0 {
+    if rest.is_empty() {
         return ok;
     }
-    ok & word_matches(changed, seen, whole, rest)
+    ok & rest_matches(changed[whole.len()], rest)
 }
 
 // One link more counts for a record, in the tally that begins here.
@@ -272,146 +218,91 @@ fn tally_link(tally: &mut [u16; 8320], from: usize, value: u16)
     requires { (from ≤ 6240) × Each (λ x. x ≤ 8207) tally.old }
     ensures { tally.new ≡ raised tally.old (from + value % 2048) }
 {
-    let place = from + wide(value % 2048);
-    tally[place] = tally[place] + 1;
+    tally[from + usize::from(value % 2048)] += 1;
 }
 
-// How many of the first links count for each record, four links in a turn, one for each tally; and how many links these are.
-fn tally_fours(tally: &mut [u16; 8320], last: &[u16; 8208], links: usize) -> usize
-    requires { (tally.old ≡ replicate 8320 0) × (links ≤ 8208) }
-    ensures { (result ≤ links) × (tally.new ≡ tallied last.now result (replicate 8320 0)) × Each (λ x. x ≤ result) tally.new }
-{
-    let mut l = 0;
-    while l + 3 < links {
-        tally_link(tally, 0, last[l]);
-        tally_link(tally, 2080, last[l + 1]);
-        tally_link(tally, 4160, last[l + 2]);
-        tally_link(tally, 6240, last[l + 3]);
-        l += 4;
-    }
-    l
-}
-
-// How many of the first links count for each record, in four tallies side by side.
-fn tally_links(tally: &mut [u16; 8320], last: &[u16; 8208], links: usize)
+// How many of the first links count for each record, four links in a turn, one for each of four tallies side by side: one loop over all of them is slower, and one
+// over `chunks(4)`, with no loop for the rest, took twice as long. The four tallies are one array, for the definition `tallied` of `clauses` has them in one list.
+fn tally_links(tally: &mut [u16; 8320], last: &[u16; 8208], links: u16)
     requires { (tally.old ≡ replicate 8320 0) × (links ≤ 8208) }
     ensures { (tally.new ≡ tallied last.now links (replicate 8320 0)) × Each (λ x. x ≤ 8208) tally.new }
 {
-    let mut l = tally_fours(tally, last, links);
-    while l < links {
-        tally_link(tally, l % 4 * 2080, last[l]);
-        l += 1;
+    let (fours, rest) = last[..usize::from(links)].as_chunks::<4>();
+    for four in fours {
+        for (i, value) in four.iter().enumerate() {
+            tally_link(tally, i * 2080, *value);
+        }
+    }
+    for (i, value) in rest.iter().enumerate() {
+        tally_link(tally, i * 2080, *value);
     }
 }
 
 // Each count is the tally of its record.
+#[tactic(auto, using(crate::proofs::Tested::below_more), unfolding(clauses::specs::IsSound::below, clauses::specs::Inspected::counts_match))]
 fn counts_match(counts: &[u16], tally: &[u16; 8320]) -> bool
     requires { (length counts.now ≤ 1024) × Each (λ x. x ≤ 8208) tally.now }
     ensures { result ≡ counts_match counts.now tally.now }
 {
     let mut ok = true;
-    let mut i = 0;
-    while i < counts.len() {
+    for (i, count) in counts.iter().enumerate() {
         let a = i + 1;
-        let sum = tally[a] + tally[2080 + a] + tally[4160 + a] + tally[6240 + a];
-        ok = ok & (sum == counts[i]);
-        i += 1;
+        ok &= tally[a] + tally[2080 + a] + tally[4160 + a] + tally[6240 + a] == *count;
     }
     ok
 }
 
 // Every number of the tables that hold one number for a record, a register or a worker is in its range.
-fn numbers_fit(
-    s: Sizes,
-    used: &[u64],
-    held: &[u64],
-    candidates: &[u64],
-    makers: &[u16],
-    registers: &[u16],
-    snoops: &[u16],
-) -> bool
-    requires { (length used.now ≡ word_count s.n) × (length held.now ≡ word_count s.n) × (length candidates.now ≡ word_count s.n) }
-    ensures { (t : Tables) → result ≡ numbers_fit s (numbers_on used.now held.now candidates.now makers.now registers.now snoops.now t) }
+#[tactic(auto, unfolding(clauses::specs::Inspected::numbers_fit))]
+fn numbers_fit(s: Sizes, t: ReadTables) -> bool
+    requires { Exact s (seen t) }
+    ensures { result ≡ numbers_fit s (seen t.entry) }
 {
-    unused_off(used, s.n)
-        & unused_off(held, s.n)
-        & unused_off(candidates, s.n)
-        & at_most(makers, s.w)
-        & at_most(registers, s.n)
-        & at_most(snoops, 1)
+    unused_off(t.used, s.n)
+        & unused_off(t.held, s.n)
+        & unused_off(t.candidates, s.n)
+        & at_most(t.makers, s.w)
+        & at_most(t.registers, s.n)
+        & at_most(t.snoops, 1)
 }
 
 // Every clause on links: the entries of logs and history, what stands past them, the changed marks and the counts.
-fn links_fit(
-    s: Sizes,
-    counts: &[u16],
-    values: &[u16],
-    changed: &[u64],
-    logs: &[u16],
-    history: &[u16],
-    lengths: &[u16],
-    c: Collector,
-) -> bool
-    requires { LinksToFit s (links_on counts.now values.now changed.now logs.now history.now lengths.now) c }
-    ensures { (t : Tables) → result ≡ links_fit s (links_on counts.now values.now changed.now logs.now history.now lengths.now t) c }
+fn links_fit(s: Sizes, t: ReadTables, c: Collector) -> bool
+    requires { Fits s (seen t) c }
+    ensures { result ≡ links_fit s (seen t.entry) c }
 {
     let links = link_count(s);
-    let n = lengths[wide(s.w)];
-    let to = wide(counted_to(c)) * 2;
-    let from = wide(uncleared_from(c, n)) * 2;
-    let end = wide(n) * 2;
-    let mut seen = [0u32; 8208];
-    let mut last = [0u16; 8208];
-    let mut tally = [0u16; 8320];
-    let counted = enter(&mut seen, &mut last, &history[..to], links, s.n, 131072);
-    let valued = take_values(&mut last, values, s.n);
-    let logged = enter_logs(s, &mut seen, &mut last, logs, lengths);
-    let cleared = enter(&mut seen, &mut last, &history[to..from], links, s.n, 131072);
-    let uncleared = enter(
-        &mut seen,
-        &mut last,
-        &history[from..end],
-        links,
-        s.n,
-        131073,
-    );
-    let padded = all_zero(&history[end..]);
-    let unused = unused_off(changed, links);
-    let marked = marks_match(changed, &seen, links);
-    tally_links(&mut tally, &last, wide(links));
-    let matched = counts_match(counts, &tally);
-    counted & valued & logged & cleared & uncleared & padded & unused & marked & matched
+    let n = t.lengths[usize::from(s.w)];
+    let to = usize::from(counted_to(c)) * 2;
+    let from = usize::from(uncleared_from(c, n)) * 2;
+    let end = usize::from(n) * 2;
+    let mut notes = Notes {
+        ok: true,
+        seen: [0; 8208],
+        last: [0; 8208],
+    };
+    notes.enter(s, &t.history[..to], 131072);
+    notes.take_values(t.values, s.n);
+    let padded = notes.enter_logs(s, t.logs, t.lengths);
+    notes.enter(s, &t.history[to..from], 131072);
+    notes.enter(s, &t.history[from..end], 131073);
+    let mut tally = [0; 8320];
+    tally_links(&mut tally, &notes.last, links);
+    notes.ok
+        & padded
+        & all_zero(&t.history[end..])
+        & unused_off(t.changed, links)
+        & marks_match(t.changed, &notes.seen, links)
+        & counts_match(t.counts, &tally)
 }
 
 // The whole check, on tables of exact lengths.
-pub fn inspect(
-    s: Sizes,
-    used: &[u64],
-    counts: &[u16],
-    held: &[u64],
-    candidates: &[u64],
-    makers: &[u16],
-    values: &[u16],
-    changed: &[u64],
-    registers: &[u16],
-    snoops: &[u16],
-    logs: &[u16],
-    history: &[u16],
-    lengths: &[u16],
-    c: Collector,
-) -> bool
-    requires { (in_range s ≡ true) × Exact s (lent used.now counts.now held.now candidates.now makers.now values.now changed.now registers.now snoops.now logs.now history.now lengths.now) }
-    ensures { result ≡ inspected s
-        (lent used.now counts.now held.now candidates.now makers.now values.now changed.now registers.now snoops.now logs.now history.now lengths.now) c }
+pub fn inspect(s: Sizes, t: ReadTables, c: Collector) -> bool
+    requires { (in_range s ≡ true) × Exact s (seen t) }
+    ensures { result ≡ inspected s (seen t.entry) c }
 {
-    if !at_most(lengths, link_count(s)) {
-        return false;
-    }
-    if !phase_fits(s, c, lengths[wide(s.w)]) {
-        return false;
-    }
-    if !numbers_fit(s, used, held, candidates, makers, registers, snoops) {
-        return false;
-    }
-    links_fit(s, counts, values, changed, logs, history, lengths, c)
+    let fits = at_most(t.lengths, link_count(s))
+        & phase_fits(s, c, t.lengths[usize::from(s.w)])
+        & numbers_fit(s, t);
+    fits && links_fit(s, t, c)
 }

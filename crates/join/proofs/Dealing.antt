@@ -14,12 +14,13 @@ use borrow.Author.Tests.{le-leb, eq-eqb}
 use lib.Dec.{eqb, leb}
 use lib.ListN.{length, get_or, take, set, replicate, length-append, length-map}
 use lib.Seq.{take-append-add, take-append_seam}
+use Rattle.std.specs.Prelude.{Ok}
 use Rattle.rules.specs.declared.Sizes.{Sizes}
 use Rattle.rules.specs.View.{bit}
 use Rattle.rules.specs.Sound.{Each}
 use Rattle.laws.proofs.Tests.{eqb_cases, and_both}
 use Rattle.laws.proofs.Lists.{Each-at, Each-map, Each-set}
-use Rattle.join.specs.Part.{Numbered, Part, whole, part_told, and_parts, parts_told}
+use Rattle.join.specs.Part.{Numbered, Part, part_told, and_parts, parts_told}
 use Rattle.join.specs.Joined.{sum, end_to_end, equal_sizes, all_sized, same_sizes, all_events, in_order, end_field, first_field, joined_trace}
 use Rattle.join.specs.Promise.{event_bytes, trace_of, Dealt, none, goes}
 use Rattle.join.proofs.Numbers.{times, times_append, hit_other, put_inserts, times_inserted, length_inserted, order_inserted, all_stand}
@@ -114,7 +115,7 @@ module _ {sizes : List ℕ} {s : Sizes} (opens : Opens sizes s) where
   part_with events = record { sizes = s; field = sizes; events = events }
 
   parts_told_lem : (n : ℕ) (dealt : List (List Numbered)) → Each (Upto n) dealt → (before all : List ℕ) → all ≡ before ++ flatten (map (trace_of sizes) dealt)
-      → parts_told all (length before) (map length (map (trace_of sizes) dealt)) ≡ whole (map part_with dealt)
+      → parts_told all (length before) (map length (map (trace_of sizes) dealt)) ≡ Ok (map part_with dealt)
   unfolding parts_told flatten
   parts_told_lem n [] up before all is = refl
   parts_told_lem n (events ∷ dealt) up before all is =

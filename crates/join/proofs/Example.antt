@@ -6,11 +6,11 @@ use Prim.Native.Nat.{ℕ}
 use mathlib.Core.Path.{◌≡◌, refl}
 use mathlib.Core.List.{List, [], ◌∷◌, ◌++◌, flatten}
 use lib.ListN.{replicate}
+use Rattle.std.specs.Prelude.{Ok}
 use Rattle.rules.specs.declared.Refusal.TheVariants.{WrongSize, StopsShort, WrongStep, WrongCount, SizesDiffer, OutputShort, ExtraByte}
 use Rattle.rules.specs.Size.{in_range}
 use Rattle.fields.specs.Field.{payload_of, payload_for, event_at, refusals, decide, taken, behind_end, field_at, read_at}
-use Rattle.join.specs.declared.Joined.TheVariants.{Length}
-use Rattle.join.specs.Part.{number_at, expected, events_told, part_told, parts_told}
+use Rattle.join.specs.Part.{number_at, expected, events_told, opening, part_told, parts_told}
 use Rattle.join.specs.Joined.{sum, end_to_end, equal_sizes, all_sized, same_sizes, all_events, stands, stand_to, field_of, in_order, end_field, first_field, joined_trace, JoinedOn, refused_on, whole_on, joined_on}
 
 sizes : List ℕ
@@ -33,12 +33,12 @@ end : ℕ → List ℕ
 end n = 0x7F ∷ 0 ∷ 4 ∷ 0 ∷ 0 ∷ 0 ∷ n ∷ []
 
 computes : JoinedOn → JoinedOn
-unfolding flatten sizes other_sizes board_sizes collect make end payload_of payload_for event_at refusals decide taken behind_end field_at read_at in_range number_at expected events_told part_told parts_told sum end_to_end equal_sizes all_sized same_sizes all_events stands stand_to field_of in_order end_field first_field joined_trace whole_on joined_on
+unfolding flatten sizes other_sizes board_sizes collect make end payload_of payload_for event_at refusals decide taken behind_end field_at read_at in_range number_at expected events_told opening part_told parts_told sum end_to_end equal_sizes all_sized same_sizes all_events stands stand_to field_of in_order end_field first_field joined_trace whole_on joined_on
 computes x = x
 
 -- steps 1 and 3 in one part, 2 in another; the bytes beyond stay
 joins_two : joined_on ((sizes ++ make 1 ++ make 3 ++ end 2) ++ (sizes ++ collect 2 ++ end 1)) (36 ∷ 25 ∷ []) (replicate 50 7)
-    ≡ record { joined = Length 43; out = sizes ++ make 1 ++ collect 2 ++ make 3 ++ end 3 ++ replicate 7 7 }
+    ≡ record { joined = Ok 43; out = sizes ++ make 1 ++ collect 2 ++ make 3 ++ end 3 ++ replicate 7 7 }
 unfolding computes
 joins_two = refl
 
@@ -48,7 +48,7 @@ nine_before_ten : joined_on
     (32 ∷ 74 ∷ [])
     (replicate 88 7)
     ≡ record {
-      joined = Length 88;
+      joined = Ok 88;
       out = sizes ++ collect 1 ++ collect 2 ++ collect 3 ++ collect 4 ++ collect 5 ++ collect 6 ++ collect 7 ++ collect 8 ++ collect 9 ++ collect 10 ++ end 10;
     }
 unfolding computes
@@ -56,12 +56,12 @@ nine_before_ten = refl
 
 -- "length 8 means B = 0" (document 02, request 5): a part of that length joins one of length 10 with B = 0, and the joined trace has the first one's field
 eight_before_ten : joined_on ((sizes ++ make 1 ++ end 1) ++ (board_sizes 0 ++ collect 2 ++ end 1)) (27 ∷ 27 ∷ []) (replicate 34 7)
-    ≡ record { joined = Length 34; out = sizes ++ make 1 ++ collect 2 ++ end 2 }
+    ≡ record { joined = Ok 34; out = sizes ++ make 1 ++ collect 2 ++ end 2 }
 unfolding computes
 eight_before_ten = refl
 
 ten_before_eight : joined_on ((board_sizes 0 ++ collect 2 ++ end 1) ++ (sizes ++ make 1 ++ end 1)) (27 ∷ 27 ∷ []) (replicate 36 7)
-    ≡ record { joined = Length 36; out = board_sizes 0 ++ make 1 ++ collect 2 ++ end 2 }
+    ≡ record { joined = Ok 36; out = board_sizes 0 ++ make 1 ++ collect 2 ++ end 2 }
 unfolding computes
 ten_before_eight = refl
 

@@ -13,23 +13,25 @@ use borrow.Author.Tests.{ltb-false, eqb-true, not-false, eq-eqb}
 use lib.Dec.{eqb}
 use lib.ListN.{length, get_or, take, drop, length-append, length-take, length-drop, get_or-append}
 use lib.Seq.{get_or-take, get_or-drop, get_or-append-add}
+use Rattle.std.specs.Prelude.{Ok}
 use Rattle.rules.specs.declared.Sizes.{Sizes}
 use Rattle.rules.specs.Size.{in_range}
 use Rattle.rules.specs.Sound.{Each}
 use Rattle.laws.proofs.Tests.{never}
 use Rattle.laws.proofs.Refusals.{Unrefused}
-use Rattle.fields.specs.declared.Stage.TheVariants.{Events}
+use Rattle.fields.specs.declared.Stage.TheVariants.{First}
 use Rattle.fields.specs.declared.Field.TheVariants as field
 use Rattle.fields.specs.declared.Read.{Read}
-use Rattle.fields.specs.Field.{byte_at, two_at, four_at, sizes_tag, end_tag, payload_of, payload_for, payload_at, board_at, sizes_at, refusals, taken, read_at}
+use Rattle.fields.specs.Field.{byte_at, two_at, four_at, sizes_tag, end_tag, payload_of, payload_for, payload_at, board_at, sizes_at, refusals, taken, placed, read_at}
 use Rattle.fields.specs.Part.{is_taken}
 use Rattle.fields.proofs.Tags.{tag_least, sizes_payload}
-use Rattle.fields.proofs.Order.{Headed, payload_whole, before_end}
+use Rattle.fields.proofs.Order.{Headed, payload_whole, read_stage}
 use Rattle.fields.proofs.Payload.{sizes_read_lem}
-use Rattle.fields.proofs.Taken.{read_holds}
+use Rattle.fields.proofs.Taken.{OfRead, read_holds}
 use Rattle.fields.proofs.Event.{Says}
-use Rattle.join.specs.Part.{Numbered, whole, between, events_told}
-use Rattle.join.specs.Merge.{at_first}
+use Rattle.fields.proofs.Comes.{sizes_read}
+use Rattle.join.specs.Part.{Numbered, between, at_first, opening, events_told}
+use Rattle.join.proofs.Reading.{opening_reads}
 use Rattle.join.proofs.Told.{Turned, at_end, an_event, told_turn}
 
 -- ---- the same bytes at two places
@@ -130,14 +132,14 @@ formed_there before behind {e} f =
       ap (λ (n : ℕ). length before + n) (f.long ∙ ap (λ (tag : ℕ). 3 + payload_of tag) (sym (tag_alike inside (omega (arith, f.long))))),
     )
 
-pub events_formed : (turns : ℕ) (bytes : List ℕ) (place last events : ℕ) {rest : List Numbered} → events_told turns bytes place last events ≡ whole rest → Each Formed rest
+pub events_formed : (turns : ℕ) (bytes : List ℕ) (place last events : ℕ) {rest : List Numbered} → events_told turns bytes place last events ≡ Ok rest → Each Formed rest
 unfolding events_told
 events_formed zero bytes place last events told = absurd (let z : ◌≡◌ {A = ℕ} 0 1 = cc in omega arith)
 events_formed (suc turns) bytes place last events told =
     by_turn (told_turn bytes place last events turns told) (λ step next more rest. events_formed turns bytes next (step + 1) (events + 1) rest)
   where
     by_turn : {rest : List Numbered} → Turned bytes place last events turns rest
-        → ((step next : ℕ) (more : List Numbered) → events_told turns bytes next (step + 1) (events + 1) ≡ whole more → Each Formed more) → Each Formed rest
+        → ((step next : ℕ) (more : List Numbered) → events_told turns bytes next (step + 1) (events + 1) ≡ Ok more → Each Formed more) → Each Formed rest
     by_turn (at_end e) rest = tt
     by_turn (an_event step next more above says behind told) rest = (formed_here bytes place step says behind, rest step next more told)
 
@@ -202,17 +204,20 @@ module _ (bytes : List ℕ) (place : ℕ) where
   tag = byte_at bytes place
 
   -- what is known where a sizes field is read
-  sizes_say : (s : Sizes) → (read_at bytes place at_first).field ≡ field.Sizes s → SaysSizes bytes place s × ((read_at bytes place at_first).next ≡ place + (3 + payload_at bytes place))
+  abbrev SizesSay : Read → Type 0
+  SizesSay x = (s : Sizes) → x.field ≡ field.Sizes s → SaysSizes bytes place s × (x.next ≡ place + (3 + payload_at bytes place))
+
+  sizes_say : {x : Read} → read_at bytes place at_first ≡ Ok x → SizesSay x
   unfolding taken refusals tag
-  sizes_say =
-      read_holds place at_first (λ x. (s : Sizes) → x.field ≡ field.Sizes s → SaysSizes bytes place s × (x.next ≡ place + (3 + payload_at bytes place)))
-      (λ why s h. absurd (never (ap is_taken h)))
+  sizes_say read =
+      subst (OfRead SizesSay) read
+      (read_holds place at_first (OfRead SizesSay) (λ why. tt)
       bytes
       (λ s h. absurd (never (ap is_taken h)))
-      (by_tag (eqb tag sizes_tag) refl (eqb tag end_tag) refl)
+      (by_tag (eqb tag sizes_tag) refl (eqb tag end_tag) refl))
     where
       by_tag : (x : Bool) → eqb tag sizes_tag ≡ x → (y : Bool) → eqb tag end_tag ≡ y → Unrefused (refusals bytes place at_first)
-          → (s : Sizes) → (taken bytes place at_first).field ≡ field.Sizes s → SaysSizes bytes place s × ((taken bytes place at_first).next ≡ place + (3 + payload_at bytes place))
+          → SizesSay (taken bytes place at_first)
       by_tag true is_sizes y is_end passed s h =
           let is = eqb-true tag sizes_tag is_sizes in
           let read = rw is_sizes at h in
@@ -235,16 +240,14 @@ module _ (bytes : List ℕ) (place : ℕ) where
           absurd (let z : ◌≡◌ {A = ℕ} 0 1 = cc in omega arith)
 
   -- and where its bytes say so, it is read
-  sizes_there : {s : Sizes} → SaysSizes bytes place s
-      → ◌≡◌ {A = Read} (read_at bytes place at_first) (record { field = field.Sizes s; next = place + (3 + payload_at bytes place); reader = record { stage = Events; step = 0 } })
+  sizes_there : {s : Sizes} → SaysSizes bytes place s → read_at bytes place at_first ≡ Ok (sizes_read s (place + (3 + payload_at bytes place)))
   unfolding payload_of
   sizes_there {s} says =
       let on : place + (3 + payload_at bytes place) ≡ place + 3 + payload_at bytes place = omega arith in
       sym
-      (ap (λ (n : ℕ). record { field = field.Sizes s; next = n; reader = record { stage = Events; step = 0 } }) on
-      ∙ sizes_read_lem bytes place at_first false refl says.tag says.sizes (sym says.range) refl
-      ∙ payload_whole head says.whole
-      ∙ before_end bytes place at_first (λ e. let z : ◌≡◌ {A = ℕ} 0 1 = cc in omega arith))
+      (ap (λ (n : ℕ). Ok (sizes_read s n)) on
+      ∙ ap (placed place) (sizes_read_lem bytes place at_first refl says.tag says.sizes says.range ∙ payload_whole head says.whole)
+      ∙ read_stage bytes place at_first First refl)
     where
       head : Headed bytes place at_first (payload_at bytes place)
       head =
@@ -256,9 +259,9 @@ module _ (bytes : List ℕ) (place : ℕ) where
             long = says.long;
           }
 
-pub opens_here : (bytes : List ℕ) (place : ℕ) {s : Sizes} → (read_at bytes place at_first).field ≡ field.Sizes s → Opens (between bytes place (read_at bytes place at_first).next) s
-opens_here bytes place {s} is =
-    let says = sizes_say bytes place s is in
+pub opens_here : (bytes : List ℕ) (place : ℕ) {s : Sizes} {next : ℕ} → opening bytes place ≡ Ok (record { sizes = s; next = next }) → Opens (between bytes place next) s
+opens_here bytes place {s} {next} is =
+    let says = sizes_say bytes place (opening_reads bytes place is) s refl in
     let size : ℕ = 3 + payload_at bytes place in
     let room : place + size ≤ length bytes = omega (arith, says.0.whole) in
     let out = alike_out bytes place size room in
@@ -270,10 +273,9 @@ opens_here bytes place {s} is =
     })
 
 pub opens_there : (before behind : List ℕ) {bytes : List ℕ} {s : Sizes} → Opens bytes s
-    → ◌≡◌ {A = Read} (read_at (before ++ (bytes ++ behind)) (length before) at_first)
-    (record { field = field.Sizes s; next = length before + length bytes; reader = record { stage = Events; step = 0 } })
+    → read_at (before ++ (bytes ++ behind)) (length before) at_first ≡ Ok (sizes_read s (length before + length bytes))
 opens_there before behind {bytes} {s} opens =
     let inside = alike_in before bytes behind in
     sizes_there (before ++ (bytes ++ behind)) (length before) (sizes_alike inside opens.says (omega (arith, opens.long)))
-    ∙ ap (λ (n : ℕ). record { field = field.Sizes s; next = length before + n; reader = record { stage = Events; step = 0 } })
+    ∙ ap (λ (n : ℕ). Ok (sizes_read s (length before + n)))
     (ap (λ (n : ℕ). 3 + n) (payload_alike inside (omega (arith, opens.long))) ∙ sym opens.long)

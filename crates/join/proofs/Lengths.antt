@@ -1,8 +1,8 @@
 -- The table of lengths: sums of the first of them, and the places that are filled in one after another.
 --     sum_next, sum_most            the sum of the first lengths
 --     none_lent, too_many, adds_up, left-over, all_lent     the test that the parts lie end to end
---     end_is, end_inside            where a part ends
---     below_next, set_below         what holds below an index, one index further
+--     PartEnd, part_end             where a part ends
+--     below_next                    what holds below an index, one index further
 -- Assumes nothing.
 use Prim.Native.Nat.{ℕ, zero, suc, ◌+◌, ◌≤◌, ◌<◌}
 use mathlib.Core.Path.{◌≡◌, sym, ◌∙◌, subst}
@@ -13,8 +13,7 @@ use native.Mathlib.Omega.{arith}
 use native.Mathlib.Nat.{eq-or-lt_of_le, le_of_suc-le-suc, not-suc-le-zero}
 use borrow.Author.Tests.{leb-true, eqb-true, le-leb, lt-leb, eq-eqb, ne_eqb}
 use lib.Dec.{eqb, leb}
-use lib.ListN.{length, get_or, take, set}
-use lib.Seq.{get_or-set_same, get_or-set_other}
+use lib.ListN.{length, get_or, take}
 use Rattle.laws.proofs.Tests.{eqb_cases, and_left, and_right}
 use Rattle.join.specs.Joined.{sum, end_to_end}
 
@@ -69,20 +68,16 @@ module _ (parts lengths : List ℕ) where
       }
 
 -- where a part ends, and that it ends in the slice
-module _ {parts lengths : List ℕ} (lent : Lent parts lengths) {i start : ℕ} (inside : i < length lengths) (from : start ≡ sum (take i lengths)) where
-  pub end_is : start + get_or lengths i 0 ≡ sum (take (suc i) lengths)
-  end_is = omega (arith, sum_next lengths i inside)
+pub record PartEnd (parts lengths : List ℕ) (i start : ℕ) : Type 0 where
+  pub is : start + get_or lengths i 0 ≡ sum (take (suc i) lengths)
+  pub inside : start + get_or lengths i 0 ≤ length parts
 
-  pub end_inside : start + get_or lengths i 0 ≤ length parts
-  end_inside = omega (arith, end_is, sum_most lengths (suc i), lent.adds)
+pub part_end : (parts lengths : List ℕ) → end_to_end parts lengths ≡ true → {i start : ℕ} → i < length lengths → start ≡ sum (take i lengths)
+    → PartEnd parts lengths i start
+part_end parts lengths h {i} {start} inside from =
+    let is : start + get_or lengths i 0 ≡ sum (take (suc i) lengths) = omega (arith, sum_next lengths i inside) in
+    record { is = is; inside = omega (arith, is, sum_most lengths (suc i), (all_lent parts lengths h).adds) }
 
 pub below_next : (P : ℕ → Type 0) (i : ℕ) → ((j : ℕ) → j < i → P j) → P i → (j : ℕ) → j < i + 1 → P j
 below_next P i below here j h =
     ⊎_elim (λ (e : j ≡ i). subst P (sym e) here) (below j) (eq-or-lt_of_le (let k : j ≤ i = omega arith in k))
-
-pub set_below : (f : ℕ → ℕ) (xs : List ℕ) (i x : ℕ) → i < length xs → x ≡ f i → ((j : ℕ) → j < i → get_or xs j 0 ≡ f j)
-    → (j : ℕ) → j < i + 1 → get_or (set xs i x) j 0 ≡ f j
-set_below f xs i x inside here below =
-    below_next (λ j. get_or (set xs i x) j 0 ≡ f j) i
-    (λ j h. get_or-set_other xs i j x 0 (λ e. omega arith) ∙ below j h)
-    (get_or-set_same xs i x 0 inside ∙ here)

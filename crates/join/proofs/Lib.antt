@@ -9,6 +9,7 @@
 --     Whole       parts that are whole
 --     Finish      where a merge ends
 --     Going       a turn of the merge and its end, as the code sees them
+--     Laid        the parts are laid out
 --     Writing     the merge that writes
 --     Answer      what the call answers
 --     Formed      fields by their own bytes
@@ -28,6 +29,7 @@ pub mod Merging
 pub mod Whole
 pub mod Finish
 pub mod Going
+pub mod Laid
 pub mod Writing
 pub mod Answer
 pub mod Formed

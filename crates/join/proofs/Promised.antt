@@ -13,12 +13,12 @@ use borrow.Author.Tests.{ltb-true, ltb-false, eqb-true, eqb-false, eq-eqb, ne_eq
 use lib.Dec.{eqb, ltb}
 use lib.ListN.{length, get_or, take, drop, length-map, get_or-map}
 use lib.Seq.{take-append_seam}
+use Rattle.std.specs.Prelude.{Result, Ok}
 use Rattle.laws.proofs.Lists.{Each-all}
 use Rattle.rules.specs.declared.Refusal.TheVariants.{WrongStep}
 use Rattle.rules.specs.Sound.{Each}
-use Rattle.join.specs.declared.Joined.{Joined}
-use Rattle.join.specs.declared.Joined.TheVariants.{Length}
-use Rattle.join.specs.Part.{Numbered, Part, whole, number_at, expected, parts_told}
+use Rattle.fields.specs.declared.RefusedAt.{RefusedAt}
+use Rattle.join.specs.Part.{Numbered, Part, number_at, expected, parts_told}
 use Rattle.join.specs.Joined.{all_events, stand_to, first_field, joined_trace, end_field, JoinedOn, written_on, joined_on}
 use Rattle.join.specs.Merge.{start_of, part_of}
 use Rattle.fields.specs.declared.Stage.TheVariants.{Events}
@@ -81,7 +81,7 @@ part_asks bytes place last events field = by_tag (eqb tag sizes_tag) refl (eqb t
 
 -- ---- one result
 
-pub join_one_result : (parts lengths out : List ℕ) (x y : Joined) (first second : List ℕ)
+pub join_one_result : (parts lengths out : List ℕ) (x y : Result ℕ RefusedAt) (first second : List ℕ)
     → joined_on parts lengths out ≡ record { joined = x; out = first } → joined_on parts lengths out ≡ record { joined = y; out = second } → (x ≡ y) × (first ≡ second)
 join_one_result parts lengths out x y first second one other =
     let same : ◌≡◌ {A = JoinedOn} (record { joined = x; out = first }) (record { joined = y; out = second }) = sym one ∙ other in
@@ -89,7 +89,7 @@ join_one_result parts lengths out x y first second one other =
 
 -- ---- document 01's reader takes the joined trace
 
-module _ {parts lengths : List ℕ} (lent : Lent parts lengths) {told : List Part} (reads : parts_told parts 0 lengths ≡ whole told) where
+module _ {parts lengths : List ℕ} (lent : Lent parts lengths) {told : List Part} (reads : parts_told parts 0 lengths ≡ Ok told) where
   all_formed : Each Formed (all_events told)
   unfolding all_events
   all_formed =
@@ -104,14 +104,14 @@ module _ {parts lengths : List ℕ} (lent : Lent parts lengths) {told : List Par
   first_opens =
       let part = part_at parts lengths reads 0 lent.some in
       by_told told (omega (arith, (parts_each parts 0 lengths reads).0, lent.some))
-      (rw part.field_is (opens_here (part_of parts lengths 0) (start_of lengths 0) part.sizes_are))
+      (rw part.field_is (opens_here (part_of parts lengths 0) (start_of lengths 0) part.opens))
     where
       by_told : (ps : List Part) → 1 ≤ length ps → Opens (get_or ps 0 no_part).field (get_or told 0 no_part).sizes → Opens (first_field ps) (get_or told 0 no_part).sizes
       by_told [] some h = absurd (omega arith)
       by_told (p ∷ ps) some h = h
 
   module _ (numbers : stand_to (length (all_events told)) (all_events told) ≡ true) where
-    joined_read : trace_told (joined_trace told) ≡ whole (sorted (length (all_events told)) (all_events told))
+    joined_read : trace_told (joined_trace told) ≡ Ok (sorted (length (all_events told)) (all_events told))
     unfolding joined_trace trace_of
     joined_read =
         let n : ℕ = length (all_events told) in
@@ -126,12 +126,12 @@ module _ {parts lengths : List ℕ} (lent : Lent parts lengths) {told : List Par
 -- is answered, document 01's reader takes the events of the parts, each once
 pub record TakesIt (parts lengths : List ℕ) (size : ℕ) (after : List ℕ) : Type 0 where
   pub told : List Part
-  pub reads : parts_told parts 0 lengths ≡ whole told
+  pub reads : parts_told parts 0 lengths ≡ Ok told
   pub events : List Numbered
-  pub takes : trace_told (take size after) ≡ whole events
+  pub takes : trace_told (take size after) ≡ Ok events
   pub same_events : Perm events (all_events told)
 
-pub reader_takes_it : (parts lengths out : List ℕ) (size : ℕ) (after : List ℕ) → joined_on parts lengths out ≡ record { joined = Length size; out = after }
+pub reader_takes_it : (parts lengths out : List ℕ) (size : ℕ) (after : List ℕ) → joined_on parts lengths out ≡ record { joined = Ok size; out = after }
     → TakesIt parts lengths size after
 reader_takes_it parts lengths out size after is =
     let found = joined_whole parts lengths out size (ap (λ (r : JoinedOn). r.joined) is) in
@@ -139,7 +139,7 @@ reader_takes_it parts lengths out size after is =
     let w = found.1 in
     let all = all_events told in
     let trace : List ℕ = joined_trace told in
-    let same : ◌≡◌ {A = JoinedOn} (written_on trace out) (record { joined = Length size; out = after }) = sym (whole_joined parts lengths out w) ∙ is in
+    let same : ◌≡◌ {A = JoinedOn} (written_on trace out) (record { joined = Ok size; out = after }) = sym (whole_joined parts lengths out w) ∙ is in
     let answered = ap (λ (r : JoinedOn). r.joined) same in
     let long : length trace ≡ size = cc in
     let written : trace ++ drop (length trace) out ≡ after = ap (λ (r : JoinedOn). r.out) same in
@@ -156,11 +156,11 @@ reader_takes_it parts lengths out size after is =
 -- ---- a trace that was dealt out, joined again
 
 -- Each part has the trace's sizes field, the events that were dealt to it, and an end field with their count.
-pub joining_gives_back : (trace : List ℕ) → ((i : ℕ) → byte_at trace i < 256) → {events : List Numbered} → trace_told trace ≡ whole events
+pub joining_gives_back : (trace : List ℕ) → ((i : ℕ) → byte_at trace i < 256) → {events : List Numbered} → trace_told trace ≡ Ok events
     → (dealt : List (List Numbered)) → Dealt events dealt → 1 ≤ length dealt → length dealt ≤ 9
     → (out : List ℕ) → length trace ≤ length out
     → let parts : List (List ℕ) = map (trace_of (sizes_field trace)) dealt in
-    joined_on (flatten parts) (map length parts) out ≡ record { joined = Length (length trace); out = trace ++ drop (length trace) out }
+    joined_on (flatten parts) (map length parts) out ≡ record { joined = Ok (length trace); out = trace ++ drop (length trace) out }
 joining_gives_back trace small {events} whole-trace dealt d some few out room =
     let apart = trace_apart trace small whole-trace in
     let back = sym (joined_back apart.opens d apart.run some few) in

@@ -17,6 +17,7 @@ use native.Mathlib.Nat.{add-zero}
 use lib.Dec.{eqb, ltb}
 use lib.ListN.{length, length-append}
 use lib.Seq.{append_snoc}
+use Rattle.std.specs.Prelude.{Result, Ok, Err, Some, is_ok}
 use Rattle.rules.specs.declared.Event.{Event}
 use Rattle.rules.specs.declared.Refusal.TheVariants.{ExtraByte}
 use Rattle.rules.specs.View.{bit}
@@ -27,39 +28,39 @@ use Rattle.fields.specs.declared.Field.{Field}
 use Rattle.fields.specs.declared.Field.TheVariants as field
 use Rattle.fields.specs.declared.Reader.{Reader}
 use Rattle.fields.specs.declared.Read.{Read}
-use Rattle.fields.specs.Field.{byte_at, two_at, four_at, sizes_tag, end_tag, payload_of, payload_at, refusals, taken, read_at, EventSized}
+use Rattle.fields.specs.declared.RefusedAt.{RefusedAt}
+use Rattle.fields.specs.Field.{byte_at, two_at, four_at, sizes_tag, end_tag, payload_of, payload_at, refusals, taken, refused_at, read_at, EventSized}
 use Rattle.fields.specs.Part.{is_taken}
 use Rattle.fields.proofs.Tags.{tag_least, other_payload}
-use Rattle.fields.proofs.Taken.{read_holds}
+use Rattle.fields.proofs.Taken.{OfRead, read_holds}
 use Rattle.fields.proofs.Event.{Says, event_says, event_there}
 use borrow.Author.Tests.{eqb-true, eqb-false, not-false}
-use Rattle.join.specs.declared.Seen.TheVariants.{Whole, Refused}
-use Rattle.join.specs.Part.{Numbered, Told, refused, whole, also, expected, between, events_told}
-use Rattle.join.specs.Merge.{is_whole, end_seen, ends_with}
+use Rattle.join.specs.Part.{Numbered, Told, also, expected, between, events_told}
+use Rattle.join.specs.Merge.{end_seen, ends_with}
 use Rattle.join.proofs.Numbers.{times}
-use Rattle.join.proofs.Reading.{number_there, expects_end, expects_above, expects_next, tells, turn_is, turn_takes, ends, end_by}
+use Rattle.join.proofs.Reading.{number_there, expects_end, expects_above, expects_next, field_tells, tells, turn_is, turn_takes, field_ends, ends}
 
 -- ---- what was read, taken apart
 
-pub also_whole : {A B : Type 0} (f : A → B) (told : Told A) {x : B} → also f told ≡ whole x → (y : A) × (told ≡ whole y) × (f y ≡ x)
-also_whole f (refused why place) h = absurd (let z : ◌≡◌ {A = ℕ} 0 1 = cc in omega arith)
-also_whole f (whole y) {x} h = (y, refl, let same : f y ≡ x = cc in same)
+pub also_whole : {A B : Type 0} (f : A → B) (told : Told A) {x : B} → also f told ≡ Ok x → (y : A) × (told ≡ Ok y) × (f y ≡ x)
+also_whole f (Err r) h = absurd (let z : ◌≡◌ {A = ℕ} 0 1 = cc in omega arith)
+also_whole f (Ok y) {x} h = (y, refl, let same : f y ≡ x = cc in same)
 
 -- one event behind the others
 also-behind : (before : List Numbered) (e : Numbered) (told : Told (List Numbered))
     → also (λ more. before ++ more) (also (λ more. e ∷ more) told) ≡ also (λ more. (before ++ (e ∷ [])) ++ more) told
-also-behind before e (refused why place) = refl
-also-behind before e (whole more) = ap whole (sym (append_snoc before e more))
+also-behind before e (Err r) = refl
+also-behind before e (Ok more) = ap Ok (sym (append_snoc before e more))
 
 pub also-none : (told : Told (List Numbered)) → told ≡ also (λ more. [] ++ more) told
-also-none (refused why place) = refl
-also-none (whole more) = refl
+also-none (Err r) = refl
+also-none (Ok more) = refl
 
 -- ---- how far a part has been taken
 
-module _ {bytes : List ℕ} {place step size : ℕ} (sized : EventSized bytes place step size) (some : size ≡ 0 → ⊥) where
+module _ {bytes : List ℕ} {place step size : ℕ} (sized : EventSized bytes place step (Some size)) where
   pub says_here : Says bytes place step
-  says_here = event_says bytes place step _ _ (ap (λ (x : Read). x.field) (sized.reads some))
+  says_here = event_says bytes place step _ _ _ sized.reads refl
 
   pub expects : (last events : ℕ) → last ≤ step → step ≡ expected bytes place last events
   expects last events h =
@@ -90,19 +91,19 @@ module _ {bytes : List ℕ} {from step place : ℕ} {got : List Numbered} (came 
   pub came_later : Came bytes from (step + 1) place got
   came_later = record { last = came.last; most = omega (arith, came.most); room = came.room; inside = came.inside; reads = came.reads }
 
-  pub came_takes : {size : ℕ} → EventSized bytes place step size → (size ≡ 0 → ⊥)
+  pub came_takes : {size : ℕ} → EventSized bytes place step (Some size)
       → Came bytes from (step + 1) (place + size) (got ++ (record { number = step + 1; bytes = between bytes place (place + size) } ∷ []))
-  came_takes {size} sized some =
+  came_takes {size} sized =
       record {
         last = step + 1;
         most = omega arith;
         room = omega (arith, came.room, long);
-        inside = λ h. (sized.whole some).1;
+        inside = λ h. sized.whole.1;
         reads = λ turns.
             (let e : turns + length (got ++ (event ∷ [])) ≡ suc turns + length got = omega (arith, long) in ap (λ (n : ℕ). events_told n bytes from 0 0) e)
             ∙ came.reads (suc turns)
             ∙ ap (also (λ more. got ++ more))
-            (sym (turn_takes bytes place came.last (length got) true turns (expects sized some came.last (length got) came.most) sized some))
+            (sym (turn_takes bytes place came.last (length got) turns (expects sized came.last (length got) came.most) sized))
             ∙ also-behind got event (events_told turns bytes (place + size) (step + 1) (length got + 1))
             ∙ ap (λ (n : ℕ). also (λ more. (got ++ (event ∷ [])) ++ more) (events_told turns bytes (place + size) (step + 1) n)) (sym long);
       }
@@ -133,37 +134,15 @@ module _ (bytes : List ℕ) (place step : ℕ) where
   abbrev reader : Reader
   reader = record { stage = Events; step = step }
 
-  event_number : (n : ℕ) (e : Event) → (read_at bytes place reader).field ≡ field.Event n e → n ≡ four_at bytes (place + 3)
-  unfolding taken tag
-  event_number =
-      read_holds place reader (λ x. (n : ℕ) (e : Event) → x.field ≡ field.Event n e → n ≡ four_at bytes (place + 3))
-      (λ why n e h. absurd (never (ap is_taken h)))
-      bytes
-      (λ n e h. absurd (never (ap is_taken h)))
-      (λ passed. by_tag (eqb tag sizes_tag) refl (eqb tag end_tag) refl)
-    where
-      by_tag : (x : Bool) → eqb tag sizes_tag ≡ x → (y : Bool) → eqb tag end_tag ≡ y
-          → (n : ℕ) (e : Event) → (taken bytes place reader).field ≡ field.Event n e → n ≡ four_at bytes (place + 3)
-      by_tag true is_sizes y is_end n e h =
-          let other = rw is_sizes at h in
-          absurd (let z : ◌≡◌ {A = ℕ} 0 1 = cc in omega arith)
-      by_tag false is_sizes true is_end n e h =
-          let other = rw (is_sizes, is_end) at h in
-          absurd (let z : ◌≡◌ {A = ℕ} 0 1 = cc in omega arith)
-      by_tag false is_sizes false is_end n e h =
-          let event = rw (is_sizes, is_end) at h in
-          let same : n ≡ four_at bytes (place + 3) = cc in
-          same
-
   -- an end field
-  pub end_says : (read_at bytes place reader).field ≡ field.End → EndSays bytes place step (read_at bytes place reader)
+  pub end_says : {x : Read} → read_at bytes place reader ≡ Ok x → x.field ≡ field.End → EndSays bytes place step x
   unfolding taken refusals tag
-  end_says =
-      read_holds place reader (λ x. x.field ≡ field.End → EndSays bytes place step x)
-      (λ why h. absurd (never (ap is_taken h)))
+  end_says read =
+      subst (OfRead (λ x. x.field ≡ field.End → EndSays bytes place step x)) read
+      (read_holds place reader (OfRead (λ x. x.field ≡ field.End → EndSays bytes place step x)) (λ why. tt)
       bytes
       (λ h. absurd (never (ap is_taken h)))
-      (by_tag (eqb tag sizes_tag) refl (eqb tag end_tag) refl)
+      (by_tag (eqb tag sizes_tag) refl (eqb tag end_tag) refl))
     where
       by_tag : (x : Bool) → eqb tag sizes_tag ≡ x → (y : Bool) → eqb tag end_tag ≡ y → Unrefused (refusals bytes place reader)
           → (taken bytes place reader).field ≡ field.End → EndSays bytes place step (taken bytes place reader)
@@ -187,76 +166,80 @@ module _ (bytes : List ℕ) (place step : ℕ) where
 -- the next field of a part that is whole: its end, or an event above the previous one
 pub data Turned (bytes : List ℕ) (place last events turns : ℕ) : List Numbered → Type 0 where
   at_end : ends_with bytes place events ≡ true → Turned bytes place last events turns []
-  an_event : (step next : ℕ) (more : List Numbered) → last ≤ step → Says bytes place step → next ≡ place + (3 + payload_of (byte_at bytes place)) → events_told turns bytes next (step + 1) (events + 1) ≡ whole more
+  an_event : (step next : ℕ) (more : List Numbered) → last ≤ step → Says bytes place step → next ≡ place + (3 + payload_of (byte_at bytes place)) → events_told turns bytes next (step + 1) (events + 1) ≡ Ok more
       → Turned bytes place last events turns (record { number = step + 1; bytes = between bytes place next } ∷ more)
 
-pub told_turn : (bytes : List ℕ) (place last events turns : ℕ) {rest : List Numbered} → events_told (suc turns) bytes place last events ≡ whole rest
+pub told_turn : (bytes : List ℕ) (place last events turns : ℕ) {rest : List Numbered} → events_told (suc turns) bytes place last events ≡ Ok rest
     → Turned bytes place last events turns rest
-unfolding ends_with
-told_turn bytes place last events turns {rest} told = by_field x.field refl (turn_is bytes place events turns last refl ∙ told)
+unfolding ends_with end_seen
+told_turn bytes place last events turns {rest} told = by_read (read_at bytes place reader) refl (turn_is bytes place events turns last refl ∙ told)
   where
     step : ℕ
     step = expected bytes place last events
 
-    x : Read
-    x = read_at bytes place (record { stage = Events; step = step })
+    reader : Reader
+    reader = record { stage = Events; step = step }
 
-    next : ℕ
-    next = x.next
-
-    event : (n : ℕ) (e : Event) → x.field ≡ field.Event n e → tells bytes place events turns (field.Event n e) next ≡ whole rest → Turned bytes place last events turns rest
-    event n e is h =
-        let says = event_says bytes place step n e is in
-        let number : n ≡ step + 1 = event_number bytes place step n e is ∙ says.next in
-        let more = also_whole _ (events_told turns bytes next n (events + 1)) h in
-        subst (Turned bytes place last events turns)
-        (ap (λ (m : ℕ). record { number = m; bytes = between bytes place next } ∷ more.0) (sym number) ∙ more.2)
-        (an_event step next more.0 (expects_above bytes place last events says.no_end) says
-        (ap (λ (y : Read). y.next) (event_there bytes place step refl says))
-        (ap (λ (m : ℕ). events_told turns bytes next m (events + 1)) (sym number) ∙ more.1))
-
-    end : (b : Bool) → ltb next (length bytes) ≡ b → x.field ≡ field.End → cond b (refused ExtraByte next) (whole []) ≡ whole rest
+    event : {x : Read} (n : ℕ) (e : Event) → read_at bytes place reader ≡ Ok x → x.field ≡ field.Event n e → tells bytes place events turns (read_at bytes place reader) ≡ Ok rest
         → Turned bytes place last events turns rest
-    end true test is h = absurd (let z : ◌≡◌ {A = ℕ} 0 1 = cc in omega arith)
-    end false test is h =
+    event n e read is h =
+        let says = event_says bytes place step _ n e read is in
+        let next : ℕ = place + (3 + payload_of (byte_at bytes place)) in
+        let more = also_whole _ (events_told turns bytes next (step + 1) (events + 1)) (sym (ap (tells bytes place events turns) (event_there bytes place step refl says)) ∙ h) in
+        subst (Turned bytes place last events turns) more.2 (an_event step next more.0 (expects_above bytes place last events says.no_end) says refl more.1)
+
+    end : {x : Read} (b : Bool) → ltb x.next (length bytes) ≡ b → read_at bytes place reader ≡ Ok x → x.field ≡ field.End → cond b (refused_at ExtraByte x.next) (Ok []) ≡ Ok rest
+        → Turned bytes place last events turns rest
+    end true test read is h = absurd (let z : ◌≡◌ {A = ℕ} 0 1 = cc in omega arith)
+    end {x} false test read is h =
         let none : [] ≡ rest = cc in
-        let count : step ≡ events = sym (expects_end bytes place last events (end_says bytes place step is).tag) in
-        let reads = ap (λ (s : ℕ). read_at bytes place (record { stage = Events; step = s })) count in
+        let count : events ≡ step = expects_end bytes place last events (end_says bytes place step read is).tag in
         subst (Turned bytes place last events turns) none
         (at_end
-        (ap is_whole (sym (end_by bytes place true events reads is))
-        ∙ ap (λ (b : Bool). is_whole (cond b (Refused ExtraByte next) (Whole true))) test))
+        (ap (λ (s : ℕ). is_ok (ends bytes place (read_at bytes place (record { stage = Events; step = s })))) count
+        ∙ ap (λ (y : Result Read RefusedAt). is_ok (ends bytes place y)) read
+        ∙ ap (λ (f : Field). is_ok (field_ends bytes place f x.next)) is
+        ∙ ap (λ (b : Bool). is_ok (cond b (refused_at ExtraByte x.next) (Ok tt))) test))
 
-    by_field : (f : Field) → x.field ≡ f → tells bytes place events turns f next ≡ whole rest → Turned bytes place last events turns rest
-    by_field (field.Event n e) is h = event n e is h
-    by_field field.End is h = end (ltb next (length bytes)) refl is h
-    by_field (field.Refused why at) is h = absurd (let z : ◌≡◌ {A = ℕ} 0 1 = cc in omega arith)
-    by_field (field.Sizes s) is h = absurd (let z : ◌≡◌ {A = ℕ} 0 1 = cc in omega arith)
-    by_field field.Nothing is h = absurd (let z : ◌≡◌ {A = ℕ} 0 1 = cc in omega arith)
+    by_field : {x : Read} (f : Field) → read_at bytes place reader ≡ Ok x → x.field ≡ f → tells bytes place events turns (read_at bytes place reader) ≡ Ok rest
+        → field_tells bytes place events turns f x.next ≡ Ok rest → Turned bytes place last events turns rest
+    by_field (field.Event n e) read is h k = event n e read is h
+    by_field {x} field.End read is h k = end (ltb x.next (length bytes)) refl read is k
+    by_field (field.Sizes s) read is h k = absurd (let z : ◌≡◌ {A = ℕ} 0 1 = cc in omega arith)
+    by_field field.Nothing read is h k = absurd (let z : ◌≡◌ {A = ℕ} 0 1 = cc in omega arith)
 
-pub told_ends : (bytes : List ℕ) (place last events turns : ℕ) → ends_with bytes place events ≡ true → events_told (suc turns) bytes place last events ≡ whole []
+    by_read : (x : Result Read RefusedAt) → read_at bytes place reader ≡ x → tells bytes place events turns (read_at bytes place reader) ≡ Ok rest → Turned bytes place last events turns rest
+    by_read (Err r) read h = let other = sym (ap (tells bytes place events turns) read) ∙ h in absurd (let z : ◌≡◌ {A = ℕ} 0 1 = cc in omega arith)
+    by_read (Ok x) read h = by_field x.field read refl h (sym (ap (tells bytes place events turns) read) ∙ h)
+
+pub told_ends : (bytes : List ℕ) (place last events turns : ℕ) → ends_with bytes place events ≡ true → events_told (suc turns) bytes place last events ≡ Ok []
 unfolding ends_with end_seen
-told_ends bytes place last events turns h = by_field x.field refl h
+told_ends bytes place last events turns h = by_read (read_at bytes place reader) refl h
   where
-    x : Read
-    x = read_at bytes place (record { stage = Events; step = events })
+    reader : Reader
+    reader = record { stage = Events; step = events }
 
-    by_more : (b : Bool) → ltb x.next (length bytes) ≡ b → is_whole (cond b (Refused ExtraByte x.next) (Whole true)) ≡ true
-        → tells bytes place events turns field.End x.next ≡ whole []
-    by_more true test k = absurd (never k)
-    by_more false test k = ap (λ (b : Bool). cond b (refused ExtraByte x.next) (whole [])) test
+    by_more : (next : ℕ) (b : Bool) → ltb next (length bytes) ≡ b → is_ok (cond b (refused_at {A = Unit {0}} ExtraByte next) (Ok tt)) ≡ true
+        → field_tells bytes place events turns field.End next ≡ Ok []
+    by_more next true test k = absurd (never k)
+    by_more next false test k = ap (λ (b : Bool). cond b (refused_at {A = List Numbered} ExtraByte next) (Ok [])) test
 
-    by_field : (f : Field) → x.field ≡ f → is_whole (ends bytes place true f x.next) ≡ true → events_told (suc turns) bytes place last events ≡ whole []
-    by_field (field.Event n e) is k = absurd (never k)
-    by_field field.End is k =
-        sym (turn_is bytes place events turns last (expects_end bytes place last events (end_says bytes place events is).tag))
-        ∙ ap (λ (f : Field). tells bytes place events turns f x.next) is
-        ∙ by_more (ltb x.next (length bytes)) refl k
-    by_field (field.Refused why at) is k = absurd (never k)
-    by_field (field.Sizes s) is k = absurd (never k)
-    by_field field.Nothing is k = absurd (never k)
+    by_field : {x : Read} (f : Field) → read_at bytes place reader ≡ Ok x → x.field ≡ f → is_ok (field_ends bytes place f x.next) ≡ true
+        → events_told (suc turns) bytes place last events ≡ Ok []
+    by_field (field.Event n e) read is k = absurd (never k)
+    by_field {x} field.End read is k =
+        sym (turn_is bytes place events turns last (expects_end bytes place last events (end_says bytes place events read is).tag))
+        ∙ ap (tells bytes place events turns) read
+        ∙ ap (λ (f : Field). field_tells bytes place events turns f x.next) is
+        ∙ by_more x.next (ltb x.next (length bytes)) refl k
+    by_field (field.Sizes s) read is k = absurd (never k)
+    by_field field.Nothing read is k = absurd (never k)
 
-pub rising : (turns : ℕ) (bytes : List ℕ) (place last events : ℕ) {rest : List Numbered} → events_told turns bytes place last events ≡ whole rest
+    by_read : (x : Result Read RefusedAt) → read_at bytes place reader ≡ x → is_ok (ends bytes place x) ≡ true → events_told (suc turns) bytes place last events ≡ Ok []
+    by_read (Err r) read k = absurd (never k)
+    by_read (Ok x) read k = by_field x.field read refl k
+
+pub rising : (turns : ℕ) (bytes : List ℕ) (place last events : ℕ) {rest : List Numbered} → events_told turns bytes place last events ≡ Ok rest
     → (x : ℕ) → 1 ≤ times x rest → last < x
 unfolding events_told times
 rising zero bytes place last events told x h = absurd (let z : ◌≡◌ {A = ℕ} 0 1 = cc in omega arith)
@@ -264,7 +247,7 @@ rising (suc turns) bytes place last events told x h =
     by_turn (told_turn bytes place last events turns told) h (λ step next more rest k. rising turns bytes next (step + 1) (events + 1) rest x k)
   where
     by_turn : {rest : List Numbered} → Turned bytes place last events turns rest → 1 ≤ times x rest
-        → ((step next : ℕ) (more : List Numbered) → events_told turns bytes next (step + 1) (events + 1) ≡ whole more → 1 ≤ times x more → step + 1 < x)
+        → ((step next : ℕ) (more : List Numbered) → events_told turns bytes next (step + 1) (events + 1) ≡ Ok more → 1 ≤ times x more → step + 1 < x)
         → last < x
     by_turn (at_end e) k rest = absurd (omega arith)
     by_turn (an_event step next more above says behind told) k rest =

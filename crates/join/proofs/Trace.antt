@@ -2,34 +2,36 @@
 --     Run, Rises              events whose numbers follow one another, or rise
 --     between_in              a field among other bytes
 --     end_there               an end field among other bytes
---     events_read, trace_read     document 01's reader
+--     events_read, nothing_there, trace_read     document 01's reader
 --     events_told_lem, part_told_lem      the part's reader
 -- Assumes nothing.
 use Prim.Native.Nat.{ℕ, suc, ◌+◌, ◌-◌, ◌≤◌, ◌<◌}
 use mathlib.Core.Path.{◌≡◌, refl, sym, ap, ◌∙◌, subst}
-use mathlib.Core.Bool.{Bool, false, cond, not}
+use mathlib.Core.Bool.{Bool, cond}
 use mathlib.Core.List.{List, [], ◌∷◌, ◌++◌, flatten, append_assoc, append-nil}
 use native.Mathlib.Omega.{arith}
-use borrow.Author.Tests.{le-ltb, eq-eqb}
+use borrow.Author.Tests.{le-ltb}
 use lib.Dec.{eqb}
 use lib.ListN.{length, take, length-append}
 use lib.Seq.{take-append_seam, drop-append_seam}
+use Rattle.std.specs.Prelude.{Result, Ok, Err}
 use Rattle.rules.specs.declared.Sizes.{Sizes}
 use Rattle.rules.specs.declared.Refusal.TheVariants.{ExtraByte}
 use Rattle.fields.specs.declared.Stage.TheVariants.{Events, Ended}
 use Rattle.fields.specs.declared.Field.TheVariants as field
 use Rattle.fields.specs.declared.Reader.{Reader}
 use Rattle.fields.specs.declared.Read.{Read}
-use Rattle.fields.specs.Field.{byte_at, two_at, four_at, sizes_tag, end_tag, payload_of, payload_at, read_at}
-use Rattle.fields.proofs.Order.{Headed, payload_whole, before_end, behind_end_lem}
+use Rattle.fields.specs.declared.RefusedAt.{RefusedAt}
+use Rattle.fields.specs.Field.{byte_at, two_at, four_at, sizes_tag, end_tag, payload_of, payload_at, behind_end, refused_at, placed, read_at}
+use Rattle.fields.proofs.Order.{Headed, payload_whole, read_stage}
 use Rattle.fields.proofs.Payload.{end_read_lem}
 use Rattle.fields.proofs.Tags.{tag_least, other_payload}
 use Rattle.fields.proofs.Event.{Says, event_there}
-use Rattle.join.specs.Part.{Numbered, Told, refused, whole, also, between, number_at, expected, events_told, part_told}
+use Rattle.fields.proofs.Comes.{end_read, nothing_read}
+use Rattle.join.specs.Part.{Numbered, Told, also, between, at_first, number_at, expected, events_told, part_told}
 use Rattle.join.specs.Joined.{end_field}
-use Rattle.join.specs.Merge.{at_first}
 use Rattle.join.specs.Promise.{read_told, trace_told, event_bytes, trace_of}
-use Rattle.join.proofs.Reading.{expects_end, expects_next, number_there, turn_is, tells}
+use Rattle.join.proofs.Reading.{expects_end, expects_next, number_there, turn_is, tells, reads_opening}
 use Rattle.join.proofs.Told.{also-none}
 use Rattle.join.proofs.Whole.{whole_part_lem}
 use Rattle.join.proofs.Formed.{Alike, alike_in, Formed, formed_there, Opens, opens_there}
@@ -53,15 +55,14 @@ module _ (before behind : List ℕ) (n : ℕ) where
   unfolding end_field
   end_tag_there = (alike_in before (end_field n) behind).byte 0 place 0 (omega arith) (omega arith) (omega arith)
 
-  pub end_there : ◌≡◌ {A = Read} (read_at bytes place (record { stage = Events; step = n })) (record { field = field.End; next = place + 7; reader = record { stage = Ended; step = n } })
+  pub end_there : read_at bytes place (record { stage = Events; step = n }) ≡ Ok (end_read n (place + 7))
   unfolding end_field payload_of
   end_there =
       sym
-      (ap (λ (m : ℕ). record { field = field.End; next = m; reader = record { stage = Ended; step = n } }) (let e : place + 7 ≡ place + 3 + 4 = omega arith in e)
-      ∙ end_read_lem bytes place (record { stage = Events; step = n }) false long (λ e. omega (arith, end_tag_there)) (sym number) end_tag_there
-      (ap not (eq-eqb n n refl))
-      ∙ payload_whole head (omega (arith, alike.inside))
-      ∙ before_end bytes place (record { stage = Events; step = n }) (λ e. let z : ◌≡◌ {A = ℕ} 0 1 = cc in omega arith))
+      (ap (λ (m : ℕ). Ok (end_read n m)) (let e : place + 7 ≡ place + 3 + 4 = omega arith in e)
+      ∙ ap (placed place) (end_read_lem bytes place (record { stage = Events; step = n }) long end_tag_there (sym number)
+      ∙ payload_whole head (omega (arith, alike.inside)))
+      ∙ read_stage bytes place (record { stage = Events; step = n }) Events refl)
     where
       alike : Alike (end_field n) 0 bytes place 7
       alike = alike_in before (end_field n) behind
@@ -137,23 +138,25 @@ module _ (e : Numbered) (events : List Numbered) (before behind all : List ℕ) 
 
 also_append : (e : Numbered) (events : List Numbered) (told : Told (List Numbered))
     → also (λ more. e ∷ more) (also (λ more. events ++ more) told) ≡ also (λ more. (e ∷ events) ++ more) told
-also_append e events (refused why place) = refl
-also_append e events (whole more) = refl
+also_append e events (Err r) = refl
+also_append e events (Ok more) = refl
 
 -- a turn of document 01's reader
-abbrev pub takes : List ℕ → ℕ → ℕ → Read → Told (List Numbered)
+abbrev pub takes : List ℕ → ℕ → ℕ → Result Read RefusedAt → Told (List Numbered)
 takes all turns place x =
-    elim x.field [
-      | field.Sizes s ↦ read_told turns all x.next x.reader
-      | field.Event number e ↦ also (λ more. record { number = number; bytes = between all place x.next } ∷ more) (read_told turns all x.next x.reader)
-      | field.End ↦ read_told turns all x.next x.reader
-      | field.Nothing ↦ whole []
-      | field.Refused why at ↦ refused why at
+    elim x [
+      | Err r ↦ Err r
+      | Ok x ↦ elim x.field [
+        | field.Sizes s ↦ read_told turns all x.next x.reader
+        | field.Event number e ↦ also (λ more. record { number = number; bytes = between all place x.next } ∷ more) (read_told turns all x.next x.reader)
+        | field.End ↦ read_told turns all x.next x.reader
+        | field.Nothing ↦ Ok []
+      ]
     ]
 
-pub read_turn : (all : List ℕ) (turns place : ℕ) (reader : Reader) → read_told (suc turns) all place reader ≡ takes all turns place (read_at all place reader)
+pub read_turn : (all : List ℕ) (turns from : ℕ) (reader : Reader) → read_told (suc turns) all from reader ≡ takes all turns from (read_at all from reader)
 unfolding read_told
-read_turn all turns place reader = refl
+read_turn all turns from reader = refl
 
 event_read_lem : (behind all : List ℕ) (e : Numbered) (events : List Numbered) (step : ℕ) (before : List ℕ) (turns : ℕ) → all ≡ before ++ (event_bytes (e ∷ events) ++ behind)
     → Formed e → e.number ≡ step + 1
@@ -194,7 +197,11 @@ module _ (behind all : List ℕ) where
       λ j. also (λ more. (e ∷ events) ++ more) (read_told turns all (a j) (behind_step (b j))))
 
 -- behind the end field nothing is left, and the trace is whole
-end_read_whole : (before : List ℕ) (n turns : ℕ) → read_told (suc (suc turns)) (before ++ end_field n) (length before) (behind_step n) ≡ whole []
+pub nothing_there : (all : List ℕ) (place n : ℕ) → length all ≤ place → read_at all place (record { stage = Ended; step = n }) ≡ Ok (nothing_read place (record { stage = Ended; step = n }))
+unfolding read_at behind_end
+nothing_there all place n none = rw (le-ltb place (length all) none)
+
+end_read_whole : (before : List ℕ) (n turns : ℕ) → read_told (suc (suc turns)) (before ++ end_field n) (length before) (behind_step n) ≡ Ok []
 unfolding end_field
 end_read_whole before n turns =
     let all : List ℕ = before ++ end_field n in
@@ -203,8 +210,7 @@ end_read_whole before n turns =
     read_turn all (suc turns) (length before) (behind_step n)
     ∙ ap (takes all (suc turns) (length before)) (ap (λ (l : List ℕ). read_at l (length before) (behind_step n)) tail ∙ end_there before [] n)
     ∙ read_turn all turns (length before + 7) ended
-    ∙ ap (takes all turns (length before + 7))
-    (sym (behind_end_lem all (length before + 7) ended false refl (le-ltb (length before + 7) (length all) (omega (arith, length-append before (end_field n))))))
+    ∙ ap (takes all turns (length before + 7)) (nothing_there all (length before + 7) n (omega (arith, length-append before (end_field n))))
 
 length_end : (n : ℕ) → length (end_field n) ≡ 7
 unfolding end_field
@@ -222,7 +228,7 @@ length_events step (e ∷ events) run =
     )
 
 -- a trace of a sizes field and of events whose numbers are 1, 2, ..: document 01's reader takes it, with these events
-pub trace_read : {sizes : List ℕ} {s : Sizes} → Opens sizes s → (events : List Numbered) → Run 0 events → trace_told (trace_of sizes events) ≡ whole events
+pub trace_read : {sizes : List ℕ} {s : Sizes} → Opens sizes s → (events : List Numbered) → Run 0 events → trace_told (trace_of sizes events) ≡ Ok events
 unfolding trace_told trace_of
 trace_read {sizes} {s} opens events run =
     let n : ℕ = length events in
@@ -243,7 +249,7 @@ trace_read {sizes} {s} opens events run =
     let c = sym (append_assoc sizes fields (end_field n)) in
     λ j. read_told (suc (suc turns)) (c j) (a j) (behind_step (b j)))
     ∙ end_read_whole (sizes ++ fields) n turns)
-    ∙ ap whole (append-nil events)
+    ∙ ap Ok (append-nil events)
 
 -- ---- the part's reader
 
@@ -271,7 +277,7 @@ event_told behind all e events last count before turns is formed above =
     let next = sym (next_here e events before behind all is formed) in
     let on = sym formed.number_is in
     sym (turn_is all (length before) count turns last expects)
-    ∙ ap (λ (x : Read). tells all (length before) count turns x.field x.next) (event_there all (length before) formed.step refl says)
+    ∙ ap (tells all (length before) count turns) (event_there all (length before) formed.step refl says)
     ∙ (λ j. also (λ more. event j ∷ more) (events_told turns all (next j) (on j) (count + 1)))
 
 module _ (behind all : List ℕ) where
@@ -299,16 +305,16 @@ module _ (behind all : List ℕ) where
       λ j. also (λ more. (e ∷ events) ++ more) (events_told turns all (a j) (last_of e.number events) (b j)))
 
 -- behind the end field of a part no byte is left
-end_told_whole : (before : List ℕ) (last n turns : ℕ) → events_told (suc turns) (before ++ end_field n) (length before) last n ≡ whole []
+end_told_whole : (before : List ℕ) (last n turns : ℕ) → events_told (suc turns) (before ++ end_field n) (length before) last n ≡ Ok []
 unfolding end_field
 end_told_whole before last n turns =
     let all : List ℕ = before ++ end_field n in
     let tail : all ≡ before ++ (end_field n ++ []) = ap (λ (l : List ℕ). before ++ l) (sym (append-nil (end_field n))) in
     let tag = ap (λ (l : List ℕ). byte_at l (length before)) tail ∙ end_tag_there before [] n in
     sym (turn_is all (length before) n turns last (expects_end all (length before) last n tag))
-    ∙ ap (λ (x : Read). tells all (length before) n turns x.field x.next)
+    ∙ ap (tells all (length before) n turns)
     (ap (λ (l : List ℕ). read_at l (length before) (behind_step n)) tail ∙ end_there before [] n)
-    ∙ ap (λ (b : Bool). cond b (refused ExtraByte (length before + 7)) (whole []))
+    ∙ ap (λ (b : Bool). cond b (refused_at {A = List Numbered} ExtraByte (length before + 7)) (Ok []))
     (le-ltb (length before + 7) (length all) (omega (arith, length-append before (end_field n))))
 
 length_risen : (last : ℕ) (events : List Numbered) → Rises last events → length events ≤ length (event_bytes events)
@@ -324,7 +330,7 @@ length_risen last (e ∷ events) run =
 
 -- a part behind other bytes, of a sizes field and of events whose numbers rise
 pub part_told_lem : (before : List ℕ) {sizes : List ℕ} {s : Sizes} → Opens sizes s → (events : List Numbered) → Rises 0 events
-    → part_told (before ++ trace_of sizes events) (length before) ≡ whole (record { sizes = s; field = sizes; events = events })
+    → part_told (before ++ trace_of sizes events) (length before) ≡ Ok (record { sizes = s; field = sizes; events = events })
 unfolding trace_of
 part_told_lem before {sizes} {s} opens events run =
     let n : ℕ = length events in
@@ -332,7 +338,6 @@ part_told_lem before {sizes} {s} opens events run =
     let all : List ℕ = before ++ (sizes ++ (fields ++ end_field n)) in
     let turns : ℕ = length all - n - 1 in
     let opened = opens_there before (fields ++ end_field n) opens in
-    let next : (read_at all (length before) at_first).next ≡ length before + length sizes = ap (λ (x : Read). x.next) opened in
     let place : length (before ++ sizes) ≡ length before + length sizes = length-append before sizes in
     let long : length all ≡ length before + (length sizes + (length fields + 7)) =
     omega (
@@ -343,8 +348,8 @@ part_told_lem before {sizes} {s} opens events run =
       length_end n,
     ) in
     let enough : length all ≡ suc turns + n = omega (arith, opens.long, length_risen 0 events run) in
-    let told : events_told (length all) all (read_at all (length before) at_first).next 0 0 ≡ whole events =
-    (let a = next ∙ sym place in λ j. events_told (enough j) all (a j) 0 0)
+    let told : events_told (length all) all (length before + length sizes) 0 0 ≡ Ok events =
+    (let a = sym place in λ j. events_told (enough j) all (a j) 0 0)
     ∙ events_told_lem (end_field n) all events 0 0 (before ++ sizes) (suc turns) (sym (append_assoc before sizes (fields ++ end_field n))) run
     ∙ ap (also (λ more. events ++ more))
     ((let a : length (before ++ sizes) + length fields ≡ length ((before ++ sizes) ++ fields) = sym (length-append (before ++ sizes) fields) in
@@ -352,7 +357,6 @@ part_told_lem before {sizes} {s} opens events run =
     let c = sym (append_assoc before sizes (fields ++ end_field n)) ∙ sym (append_assoc (before ++ sizes) fields (end_field n)) in
     λ j. events_told (suc turns) (c j) (a j) (last_of 0 events) (b j))
     ∙ end_told_whole ((before ++ sizes) ++ fields) (last_of 0 events) n turns)
-    ∙ ap whole (append-nil events) in
-    whole_part_lem all (length before) (ap (λ (x : Read). x.field) opened) told
-    ∙ ap (λ (l : List ℕ). whole (record { sizes = s; field = l; events = events }))
-    (ap (between all (length before)) next ∙ between_in before sizes (fields ++ end_field n))
+    ∙ ap Ok (append-nil events) in
+    whole_part_lem all (length before) (reads_opening all (length before) opened) told
+    ∙ ap (λ (l : List ℕ). Ok (record { sizes = s; field = l; events = events })) (between_in before sizes (fields ++ end_field n))

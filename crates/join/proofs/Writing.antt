@@ -1,38 +1,27 @@
 -- The merge that writes, where the parts are whole and their numbers are 1 to n.
---     field_in_part       the bytes of a field in the part are those in the slice
 --     joined_length_lem       how long the joined trace is
 --     text_most, text_all     what is written of the events, on the way and at the end
 --     first_field_lem         the first part's sizes field
 --     joined_is, told_same           the pieces that are written are the joined trace
 -- Assumes nothing.
-use Prim.Native.Nat.{ℕ, zero, suc, ◌+◌, ◌-◌, ◌≤◌, ◌<◌}
+use Prim.Native.Nat.{ℕ, ◌+◌, ◌-◌, ◌≤◌, ◌<◌}
 use mathlib.Core.Path.{◌≡◌, refl, sym, ap, ◌∙◌}
 use mathlib.Core.Bool.{true}
 use mathlib.Core.List.{List, [], ◌∷◌, ◌++◌}
 use native.Mathlib.Omega.{arith}
-use lib.ListN.{length, get_or, take, drop, length-append, length-take}
-use lib.Seq.{take-take}
+use lib.ListN.{length, get_or, take, length-append, length-take}
+use Rattle.std.specs.Prelude.{Ok, None}
 use Rattle.fields.specs.Field.{EventSized}
-use Rattle.join.specs.Part.{Part, whole, between, parts_told}
+use Rattle.join.specs.declared.Cursor.{Cursor}
+use Rattle.join.specs.Part.{Part, Told, parts_told}
 use Rattle.join.specs.Joined.{sum, all_events, stand_to, in_order, end_field, first_field, joined_trace}
-use Rattle.join.specs.Merge.{end_of, part_of}
+use Rattle.join.specs.Merge.{end_of, part_of, cursor_at}
 use Rattle.join.proofs.Lengths.{Lent}
 use Rattle.join.proofs.Split.{order_most}
 use Rattle.join.proofs.Merging.{open_at}
 use Rattle.join.proofs.Whole.{no_part, opened_inside, parts_each, part_at}
 use Rattle.join.proofs.Finish.{step_most, same_order, comes_through}
-use Rattle.join.proofs.Going.{Going}
-
-take_inside : (m place end : ℕ) (l : List ℕ) → place + m ≤ end → take m (drop place (take end l)) ≡ take m (drop place l)
-take_inside m zero end l h = take-take m end l (omega arith)
-take_inside m (suc place) zero l h = absurd (omega arith)
-take_inside m (suc place) (suc end) [] h = refl
-take_inside m (suc place) (suc end) (x ∷ l) h = take_inside m place end l (omega arith)
-
-pub field_in_part : (parts lengths : List ℕ) (i place next : ℕ) → place ≤ next → next ≤ length (part_of parts lengths i)
-    → between (part_of parts lengths i) place next ≡ between parts place next
-field_in_part parts lengths i place next low high =
-    take_inside (next - place) place (end_of lengths i) parts (omega (arith, length-take (end_of lengths i) parts))
+use Rattle.join.proofs.Going.{take_inside, Going}
 
 pub joined_length_lem : (told : List Part) → length (joined_trace told) ≡ length (first_field told) + length (in_order (length (all_events told)) (all_events told)) + 7
 unfolding joined_trace end_field
@@ -41,7 +30,7 @@ joined_length_lem told =
     let order : List ℕ = in_order n (all_events told) in
     omega (arith, length-append (first_field told) (order ++ end_field n), length-append order (end_field n))
 
-module _ (parts lengths : List ℕ) (lent : Lent parts lengths) {told : List Part} (reads : parts_told parts 0 lengths ≡ whole told) where
+module _ (parts lengths : List ℕ) (lent : Lent parts lengths) {told : List Part} (reads : parts_told parts 0 lengths ≡ Ok told) where
   first_at : (told : List Part) → 1 ≤ length told → first_field told ≡ (get_or told 0 no_part).field
   unfolding first_field
   first_at [] h = absurd (omega arith)
@@ -53,7 +42,7 @@ module _ (parts lengths : List ℕ) (lent : Lent parts lengths) {told : List Par
   first_field_lem behind is =
       let many = (parts_each parts 0 lengths reads).0 in
       let part = part_at parts lengths reads 0 lent.some in
-      let inside = (opened_inside (part_of parts lengths 0) 0 part.sizes_are).inside in
+      let inside = (opened_inside (part_of parts lengths 0) 0 part.opens).inside in
       let long = length-take (end_of lengths 0) parts in (
         first_at told (omega (arith, lent.some))
             ∙ part.field_is
@@ -62,14 +51,14 @@ module _ (parts lengths : List ℕ) (lent : Lent parts lengths) {told : List Par
         omega (arith, inside),
       )
 
-  module _ (numbers : stand_to (length (all_events told)) (all_events told) ≡ true) {places ends counts text : List ℕ} {step : ℕ}
-      (going : Going parts lengths places ends counts step text) where
+  module _ (numbers : stand_to (length (all_events told)) (all_events told) ≡ true) {cursors : List Cursor} {text : List ℕ} {step : ℕ}
+      (going : Going parts lengths cursors step text) where
     pub text_most : length text ≤ length (in_order (length (all_events told)) (all_events told))
     text_most =
         rw (same_order parts lengths going.merging reads numbers)
         (order_most step (length (all_events told)) (all_events told) (step_most parts lengths going.merging reads))
 
-    pub text_all : ((i : ℕ) → i < length lengths → EventSized (part_of parts lengths i) (get_or places i 0) step 0)
+    pub text_all : ((i : ℕ) → i < length lengths → EventSized (part_of parts lengths i) (cursor_at cursors i).place step None)
         → (text ≡ in_order (length (all_events told)) (all_events told)) × (step ≡ length (all_events told))
     text_all stuck =
         let last : step ≡ length (all_events told) =
@@ -82,5 +71,5 @@ pub joined_is : (told : List Part) {first text : List ℕ} {step : ℕ} → firs
 unfolding joined_trace
 joined_is told first text last = let same = sym first in λ j. same j ++ (text j ++ end_field (last j))
 
-pub told_same : {a b : List Part} → whole a ≡ whole b → a ≡ b
+pub told_same : {a b : List Part} → ◌≡◌ {A = Told (List Part)} (Ok a) (Ok b) → a ≡ b
 told_same {a} {b} h = let same : a ≡ b = cc in same

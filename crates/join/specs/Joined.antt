@@ -7,15 +7,14 @@
 --     in_order, end_field, joined_trace      the joined trace
 --     JoinedOn, joined_on                    what the call answers and leaves
 -- Assumes nothing.
-use Rattle.std.specs.Prelude.{ℕ, zero, suc, ◌+◌, ◌/◌, ◌%◌, Bool, true, false, cond, not, ◌&&◌, ◌||◌, eqb, ltb, leb, length, drop}
+use Rattle.std.specs.Prelude.{ℕ, zero, suc, ◌+◌, ◌/◌, ◌%◌, Bool, true, false, cond, not, ◌&&◌, ◌||◌, eqb, ltb, leb, length, drop, Result, Ok, Err}
 use mathlib.Core.List.{List, [], ◌∷◌, ◌++◌, flatten, map}
 use Rattle.rules.specs.declared.Sizes.{Sizes}
 use Rattle.rules.specs.declared.Refusal.{Refusal}
 use Rattle.rules.specs.declared.Refusal.TheVariants.{WrongSize, WrongStep, SizesDiffer, OutputShort}
-use Rattle.fields.specs.Field.{end_tag}
-use Rattle.join.specs.declared.Joined.{Joined}
-use Rattle.join.specs.declared.Joined.TheVariants.{Length, Refused}
-use Rattle.join.specs.Part.{Numbered, Part, refused, whole, parts_told}
+use Rattle.fields.specs.declared.RefusedAt.{RefusedAt}
+use Rattle.fields.specs.Field.{end_tag, refused_at}
+use Rattle.join.specs.Part.{Numbered, Part, parts_told}
 
 -- ---- the slice and the table of lengths
 
@@ -86,16 +85,17 @@ joined_trace parts =
 -- ---- what the call answers and leaves
 
 pub record JoinedOn : Type 0 where
-  pub joined : Joined
+  -- the length of the joined trace, or why it is refused and where
+  pub joined : Result ℕ RefusedAt
   pub out : List ℕ
 
 -- "On a refusal nothing is written."
 abbrev pub refused_on : Refusal → ℕ → List ℕ → JoinedOn
-refused_on why place out = record { joined = Refused why place; out = out }
+refused_on why place out = record { joined = refused_at why place; out = out }
 
 -- "its length is answered and bytes beyond it stay"
 abbrev pub written_on : List ℕ → List ℕ → JoinedOn
-written_on trace out = record { joined = Length (length trace); out = trace ++ drop (length trace) out }
+written_on trace out = record { joined = Ok (length trace); out = trace ++ drop (length trace) out }
 
 -- "15 if two parts differ in sizes; 10 if the joined numbers aren't 1 to n; 16 if the slice written to is too short. Those of no field have place 0."
 unfoldable pub whole_on : List Part → List ℕ → JoinedOn
@@ -110,5 +110,5 @@ whole_on parts out =
 unfoldable pub joined_on : List ℕ → List ℕ → List ℕ → JoinedOn
 joined_on parts lengths out =
     cond (end_to_end parts lengths)
-    (elim (parts_told parts 0 lengths) [ refused why place ↦ refused_on why place out | whole told ↦ whole_on told out ])
+    (elim (parts_told parts 0 lengths) [ Err r ↦ refused_on r.why r.place out | Ok told ↦ whole_on told out ])
     (refused_on WrongSize 0 out)

@@ -16,23 +16,19 @@ use Rattle.tables.specs.Lie.{pool_of}
 use Rattle.tables.specs.Known.{Known}
 use Rattle.tables.proofs.RoundTrip.{known_back}
 use Rattle.clauses.specs.IsSound.{is_sound}
-use Rattle.clauses.specs.Inspected.{inspected}
 use Rattle.fresh.specs.Fits.{fits}
 use Rattle.tables.specs.Event.{LentPool}
 use Rattle.pool.specs.Run.{call_answers, after_calls}
-use Rattle.pool.proofs.Checked.{checked_known, check_is}
+use Rattle.pool.proofs.Checked.{tests_known, checked_sound}
 use Rattle.pool.proofs.Called.{laid_out, run_lies, run_answers}
 use Rattle.trace.specs.Stretch.{stretch, lines_behind, put, RanOn, ran_on}
 use Rattle.many.specs.declared.Many.{Many}
 use Rattle.many.specs.Many.{ManyOn, done, many_on}
-use Rattle.many.proofs.Checked.{sound_many}
+use Rattle.many.proofs.Checked.{done_many}
 
 module _ (s : Sizes) (t : Tables) (c : Collector) (fit : fits s t ≡ true) (sound : is_sound s t c ≡ true) (bytes : List ℕ) (step : ℕ) (room : List ℕ) where
-  inspects : inspected s t c ≡ true
-  inspects = sym (check_is s t c fit) ∙ sound
-
   known : Known s t c
-  known = checked_known s t c fit inspects
+  known = tests_known s t c fit sound
 
   -- what lies in the tables, and what the calls leave
   abbrev lent_pool : LentPool
@@ -53,7 +49,7 @@ module _ (s : Sizes) (t : Tables) (c : Collector) (fit : fits s t ≡ true) (sou
   done_on = done bytes
 
   is_done : many_on s t c bytes step room ≡ done_on (ran_on s t c bytes 0 step room)
-  is_done = sound_many s t c bytes step room fit inspects
+  is_done = done_many s t c bytes step room (checked_sound s t c fit sound)
 
   pub many_is_calls : ((many_on s t c bytes step room).answers ≡ put room (lines_behind step (call_answers s lent_pool events)))
       × (record { tables = (many_on s t c bytes step room).tables; collector = (many_on s t c bytes step room).ran.collector } ≡ after_calls s lent_pool events)

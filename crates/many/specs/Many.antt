@@ -4,7 +4,7 @@
 --     done              the events, and what stands behind them
 --     many_on           the call
 -- Assumes nothing.
-use Rattle.std.specs.Prelude.{ℕ, cond, List, ltb, length}
+use Rattle.std.specs.Prelude.{ℕ, ⊤, cond, List, ltb, length, Result, Ok, Err}
 use Rattle.rules.specs.declared.Sizes.{Sizes}
 use Rattle.rules.specs.declared.Refusal.{Refusal}
 use Rattle.rules.specs.declared.Refusal.TheVariants.{WrongSize, NotSound, WrongTag}
@@ -12,29 +12,24 @@ use Rattle.rules.specs.declared.Collector.{Collector}
 use Rattle.tables.specs.Tables.{Tables}
 use Rattle.clauses.specs.IsSound.{is_sound}
 use Rattle.fresh.specs.Fits.{fits}
-use Rattle.fields.specs.declared.Field.TheVariants as field
-use Rattle.fields.specs.Field.{read_at}
+use Rattle.fields.specs.declared.RefusedAt.{RefusedAt}
+use Rattle.fields.specs.Field.{refused_at, read_at}
 use Rattle.trace.specs.declared.Ran.{Ran}
 use Rattle.trace.specs.Stretch.{behind, RanOn, ran_on}
-use Rattle.many.specs.declared.Rest.{Rest}
-use Rattle.many.specs.declared.Rest.TheVariants.{Nothing, Stopped}
 
 -- no byte is left, or a field that is no event: a refusal as a trace has it, and 7 for one that may stand in a trace and is no event
-unfoldable pub rest_at : List ℕ → ℕ → ℕ → Rest
+unfoldable pub rest_at : List ℕ → ℕ → ℕ → Result ⊤ RefusedAt
 rest_at bytes place step =
     cond (ltb place (length bytes))
-    (elim (read_at bytes place (behind step)).field [
-      | field.Sizes s ↦ Stopped WrongTag place
-      | field.Event n e ↦ Stopped WrongTag place
-      | field.End ↦ Stopped WrongTag place
-      | field.Nothing ↦ Stopped WrongTag place
-      | field.Refused why at ↦ Stopped why at
+    (elim (read_at bytes place (behind step)) [
+      | Err e ↦ Err e
+      | Ok x ↦ refused_at WrongTag place
     ])
-    Nothing
+    (Ok tt)
 
 -- all that the call answers and leaves
 pub record ManyOn : Type 0 where
-  pub rest : Rest
+  pub rest : Result ⊤ RefusedAt
   pub ran : Ran
   pub tables : Tables
   pub answers : List ℕ
@@ -42,7 +37,7 @@ pub record ManyOn : Type 0 where
 -- "A refused event has the value 0 and changes nothing."
 abbrev pub refused_many : Refusal → Tables → Collector → ℕ → List ℕ → ManyOn
 refused_many why t c step room =
-    record { rest = Stopped why 0; ran = record { next = 0; step = step; events = 0; collector = c }; tables = t; answers = room }
+    record { rest = refused_at why 0; ran = record { next = 0; step = step; events = 0; collector = c }; tables = t; answers = room }
 
 abbrev pub done : List ℕ → RanOn → ManyOn
 done bytes x = record { rest = rest_at bytes x.ran.next x.ran.step; ran = x.ran; tables = x.tables; answers = x.answers }

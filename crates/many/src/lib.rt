@@ -4,48 +4,37 @@
 #![tactic(auto)]
 
 ghost use Rattle.std.specs.Prelude.{◌≡◌};
-ghost use Rattle.tables.specs.Tables.{lent};
+ghost use Rattle.tables.specs.Lent.{contents, SameTables};
 ghost use Rattle.many.specs.Many.{rest_at, many_on};
 
-use fields::{Field, Reader, Stage, read_at};
-use fresh::has_shape;
-use inspect::inspect;
+use fields::{Reader, RefusedAt, read_at};
+use pool::check;
 use rules::{Collector, Refusal, Sizes};
+use tables::lent::LentTables;
+use trace::teller::Answers;
 use trace::{Ran, run_events};
 
-// What stands behind the events that were done: no byte more, or a field that is no event, with its number and place. 1 and 2 have the place 0.
-#[derive(Clone, Copy)]
-pub enum Rest {
-    Nothing,
-    Stopped(Refusal, usize),
-}
-
-// What the call answers: that, the place behind the events, the last step number, how many they were, and the collector's record.
+// What the call answers: what stopped the events, if anything did, and where (1 and 2 have the place 0); the place behind the events, the last step number, how
+// many they were, and the collector's record.
 #[derive(Clone, Copy)]
 pub struct Many {
-    pub rest: Rest,
+    pub rest: Result<(), RefusedAt>,
     pub ran: Ran,
 }
 
-fn rest_of(bytes: &[u8], place: usize, step: u32) -> Rest
+// What stands behind the events that were done: no byte more, or a field that is no event, with its number and place.
+#[tactic(auto, unfolding(crate::specs::Many::rest_at))]
+fn rest_of(bytes: &[u8], place: usize, step: u32) -> Result<(), RefusedAt>
     ensures { result ≡ rest_at bytes.now place step }
 {
     if place >= bytes.len() {
-        return Rest::Nothing;
+        return Ok(());
     }
-    let x = read_at(
-        bytes,
+    read_at(bytes, place, Reader::behind(step))?;
+    Err(RefusedAt {
+        why: Refusal::WrongTag,
         place,
-        Reader {
-            stage: Stage::Events,
-            step,
-        },
-    );
-    let field = x.field;
-    match field {
-        Field::Refused(why, at) => Rest::Stopped(why, at),
-        _ => Rest::Stopped(Refusal::WrongTag, place),
-    }
+    })
 }
 
 // Event fields as a trace has them, from the beginning of `bytes` up to the first field that is none; the first has the step number behind `step`. The pool is
@@ -53,54 +42,29 @@ fn rest_of(bytes: &[u8], place: usize, step: u32) -> Rest
 // does the first event only, and one that answers 2 and has done some events.
 pub fn many_events(
     s: Sizes,
-    used: &mut [u64],
-    counts: &mut [u16],
-    held: &mut [u64],
-    candidates: &mut [u64],
-    makers: &mut [u16],
-    values: &mut [u16],
-    changed: &mut [u64],
-    registers: &mut [u16],
-    snoops: &mut [u16],
-    logs: &mut [u16],
-    history: &mut [u16],
-    lengths: &mut [u16],
+    t: &mut LentTables,
     c: Collector,
     bytes: &[u8],
     step: u32,
     answers: &mut [u16],
 ) -> Many
-    ensures { many_on s (lent used.old counts.old held.old candidates.old makers.old values.old changed.old registers.old snoops.old logs.old history.old lengths.old) c bytes.now step answers.old
-        ≡ record { rest = result.rest; ran = result.ran; tables = lent used.new counts.new held.new candidates.new makers.new values.new changed.new registers.new snoops.new logs.new history.new lengths.new; answers = answers.new } }
+    ensures done { many_on s (contents t.old) c bytes.now step answers.old
+        ≡ record { rest = result.rest; ran = result.ran; tables = contents t.new; answers = answers.new } }
+    ensures same { SameTables t.old t.new }
 {
-    let none = Ran {
-        next: 0,
-        step,
-        events: 0,
-        collector: c,
-    };
-    if !has_shape(
-        s, used, counts, held, candidates, makers, values, changed, registers, snoops, logs,
-        history, lengths,
-    ) {
+    if let Err(why) = check(s, t.to_read(), c) {
         return Many {
-            rest: Rest::Stopped(Refusal::WrongSize, 0),
-            ran: none,
+            rest: Err(RefusedAt { why, place: 0 }),
+            ran: Ran {
+                next: 0,
+                step,
+                events: 0,
+                collector: c,
+            },
         };
     }
-    if !inspect(
-        s, used, counts, held, candidates, makers, values, changed, registers, snoops, logs,
-        history, lengths, c,
-    ) {
-        return Many {
-            rest: Rest::Stopped(Refusal::NotSound, 0),
-            ran: none,
-        };
-    }
-    let ran = run_events(
-        s, used, counts, held, candidates, makers, values, changed, registers, snoops, logs,
-        history, lengths, c, bytes, 0, step, answers,
-    );
+    let mut teller = Answers { answers, events: 0 };
+    let ran = run_events(s, t, c, bytes, 0, step, &mut teller);
     Many {
         rest: rest_of(bytes, ran.next, ran.step),
         ran,

@@ -4,12 +4,11 @@
 --     aside_known        it is a sound pool
 --     aside_pool         and the pool that they mean
 -- Assumes nothing.
-use Prim.Native.Nat.{ℕ, zero, suc, ◌+◌, ◌*◌, ◌≤◌}
-use mathlib.Core.Path.{◌≡◌, refl, sym, ap, ◌∙◌, subst}
+use Prim.Native.Nat.{◌+◌, ◌*◌}
+use mathlib.Core.Path.{◌≡◌, sym, ap, ◌∙◌, subst}
 use mathlib.Core.Bool.{true}
-use mathlib.Core.List.{List, ◌∷◌}
 use native.Mathlib.Omega.{arith}
-use lib.ListN.{take, replicate}
+use Rattle.std.proofs.lemmas.List.{take-replicate}
 use Rattle.rules.specs.declared.Sizes.{Sizes}
 use Rattle.rules.specs.declared.Collector.{Collector}
 use Rattle.rules.specs.Size.{in_range, links}
@@ -24,11 +23,6 @@ use Rattle.fresh.proofs.Zero.{zero_tables, fresh-zero}
 use Rattle.parts.specs.Arrays.{is_small, front, aside}
 use Rattle.parts.proofs.Front.{small, links_few, registers_few, logs_few}
 
-take_zeros : (n m : ℕ) → n ≤ m → take n (replicate {A = ℕ} m 0) ≡ replicate n 0
-take_zeros zero m few = refl
-take_zeros (suc n) zero few = absurd (omega arith)
-take_zeros (suc n) (suc m) few = ap (λ (xs : List ℕ). 0 ∷ xs) (take_zeros n m (omega arith))
-
 -- the collector's record of a fresh pool
 abbrev pub at_rest : Collector
 at_rest = record { phase = 0; position = 0; closed = 0 }
@@ -39,18 +33,18 @@ module _ (s : Sizes) (h : is_small s ≡ true) where
   aside_is_fresh =
       (λ j.
       record {
-        used = take_zeros (word_count s.n) 1 (omega (arith, (small s h).n)) j;
-        counts = take_zeros s.n 64 (omega (arith, (small s h).n)) j;
-        held = take_zeros (word_count s.n) 1 (omega (arith, (small s h).n)) j;
-        candidates = take_zeros (word_count s.n) 1 (omega (arith, (small s h).n)) j;
-        makers = take_zeros s.n 64 (omega (arith, (small s h).n)) j;
-        values = take_zeros (links s) 264 (links_few s h) j;
-        changed = take_zeros (word_count (links s)) 5 (omega (arith, links_few s h)) j;
-        registers = take_zeros (s.w * s.r + 1) 33 (registers_few s h) j;
-        snoops = take_zeros s.w 4 (omega (arith, (small s h).w)) j;
-        logs = take_zeros (s.w * room s) 2112 (logs_few s h) j;
-        history = take_zeros (room s) 528 (omega (arith, links_few s h)) j;
-        lengths = take_zeros (s.w + 1) 5 (omega (arith, (small s h).w)) j;
+        used = take-replicate (word_count s.n) 1 0 (omega (arith, (small s h).n)) j;
+        counts = take-replicate s.n 64 0 (omega (arith, (small s h).n)) j;
+        held = take-replicate (word_count s.n) 1 0 (omega (arith, (small s h).n)) j;
+        candidates = take-replicate (word_count s.n) 1 0 (omega (arith, (small s h).n)) j;
+        makers = take-replicate s.n 64 0 (omega (arith, (small s h).n)) j;
+        values = take-replicate (links s) 264 0 (links_few s h) j;
+        changed = take-replicate (word_count (links s)) 5 0 (omega (arith, links_few s h)) j;
+        registers = take-replicate (s.w * s.r + 1) 33 0 (registers_few s h) j;
+        snoops = take-replicate s.w 4 0 (omega (arith, (small s h).w)) j;
+        logs = take-replicate (s.w * room s) 2112 0 (logs_few s h) j;
+        history = take-replicate (room s) 528 0 (omega (arith, links_few s h)) j;
+        lengths = take-replicate (s.w + 1) 5 0 (omega (arith, (small s h).w)) j;
       })
       ∙ sym (fresh-zero s)
 

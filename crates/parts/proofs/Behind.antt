@@ -11,6 +11,7 @@ use mathlib.Core.List.{List}
 use native.Mathlib.Omega.{arith}
 use native.Mathlib.Nat.{zero-add, add-zero, add_assoc}
 use lib.ListN.{length, drop}
+use Rattle.std.specs.Prelude.{Result, Ok, Err}
 use Rattle.rules.specs.declared.Sizes.{Sizes}
 use Rattle.rules.specs.declared.Refusal.TheVariants.{WrongSize}
 use Rattle.rules.specs.Pool.{fresh}
@@ -19,11 +20,10 @@ use Rattle.fields.specs.declared.Stage.{Stage}
 use Rattle.fields.specs.declared.Stage.TheVariants.{Events, Ended}
 use Rattle.fields.specs.declared.Reader.{Reader}
 use Rattle.fields.specs.declared.Read.{Read}
-use Rattle.fields.specs.Field.{read_at}
+use Rattle.fields.specs.declared.RefusedAt.{RefusedAt}
+use Rattle.fields.specs.Field.{refused_at, read_at}
 use Rattle.fields.specs.Part.{moved}
-use Rattle.trace.specs.declared.Ending.{Ending}
-use Rattle.trace.specs.declared.Ending.TheVariants.{Whole, Stopped}
-use Rattle.trace.specs.Replay.{Left, untouched, stands, Replayed, stops, line_of, with_line}
+use Rattle.trace.specs.Replay.{Left, Ending, untouched, stands, Replayed, stops, line_of, with_line}
 use Rattle.fields.proofs.Comes.{reader_at, Comes, a_refusal, the_sizes, an_event, the_end, nothing, read_comes}
 use Rattle.trace.proofs.Turns.{turn}
 use Rattle.trace.proofs.Along.{goes_on, goes_on_turn}
@@ -38,16 +38,16 @@ unfolding moved_ending
 unmoved_replay x = λ k. record { lines = x.lines; ending = by_ending x.ending k; left = x.left }
   where
     by_ending : (e : Ending) → moved_ending 0 e ≡ e
-    by_ending (Whole free closed) = refl
-    by_ending (Stopped why place) = ap (Stopped why) (zero-add place)
+    by_ending (Ok w) = refl
+    by_ending (Err e) = ap (refused_at e.why) (zero-add e.place)
 
 pub moved_again : (m n : ℕ) (x : Replayed) → moved_replay m (moved_replay n x) ≡ moved_replay (m + n) x
 unfolding moved_ending
 moved_again m n x = λ k. record { lines = x.lines; ending = by_ending x.ending k; left = x.left }
   where
     by_ending : (e : Ending) → moved_ending m (moved_ending n e) ≡ moved_ending (m + n) e
-    by_ending (Whole free closed) = refl
-    by_ending (Stopped why place) = ap (Stopped why) (sym (add_assoc m n place))
+    by_ending (Ok w) = refl
+    by_ending (Err e) = ap (refused_at e.why) (sym (add_assoc m n e.place))
 
 -- the sizes are taken, or not
 sizes_moved : (n : ℕ) (b : Bool) (place : ℕ) (left : Left) (x y : Replayed) → x ≡ moved_replay n y
@@ -71,7 +71,7 @@ module _ (takes : Sizes → Bool) (bytes : List ℕ) (n : ℕ) (inside : n ≤ l
       (λ next m then x later within. moved_within turns next m then x (omega arith))
       ∙ sym (ap (moved_replay n) (goes_on_turn takes rest place step stage left))
     where
-      by_read : (x : Read) (stage : Stage) (left : Left) → Comes rest place step stage x
+      by_read : (x : Result Read RefusedAt) (stage : Stage) (left : Left) → Comes rest place step stage x
           → ((next m : ℕ) (then : Stage) (y : Left) → place < next → next ≤ length rest
           → goes_on takes bytes (n + next) (reader_at then m) y ≡ moved_replay n (goes_on takes rest next (reader_at then m) y))
           → turn takes (goes_on takes bytes) (n + place) left (moved n x) ≡ moved_replay n (turn takes (goes_on takes rest) place left x)

@@ -3,15 +3,17 @@
 --     arrays_between   and so it is in a program's arrays
 --     Stretched, stretched     where the events of a part lie: each has 7 bytes at least
 --     WaitsAt, few_left     where a part waits fewer bytes are left than a field may have
+--     first_of, work_of     the first field, once it is read, and the events of the part then
 --     part_waits       a part that waits
 -- Assumes nothing.
 use Prim.Native.Nat.{ℕ, suc, ◌+◌, ◌*◌, ◌≤◌, ◌<◌}
-use mathlib.Core.Path.{◌≡◌, refl, ap, subst}
+use mathlib.Core.Path.{◌≡◌, refl}
 use mathlib.Core.Bool.{Bool, true, false, cond, not}
 use mathlib.Core.List.{List, []}
 use native.Mathlib.Omega.{arith}
 use borrow.Author.Tests.{ltb-true}
 use lib.ListN.{length}
+use Rattle.std.specs.Prelude.{Some, None, Result, Ok, Err}
 use Rattle.rules.specs.declared.Sizes.{Sizes}
 use Rattle.rules.specs.declared.Refusal.TheVariants.{WrongSize, WrongTag}
 use Rattle.rules.specs.Pool.{Pool, fresh}
@@ -22,15 +24,14 @@ use Rattle.fields.specs.declared.Stage.TheVariants.{First, Events, Ended}
 use Rattle.fields.specs.declared.Reader.{Reader}
 use Rattle.fields.specs.declared.Field.TheVariants as field
 use Rattle.fields.specs.declared.Read.{Read}
+use Rattle.fields.specs.declared.RefusedAt.{RefusedAt}
 use Rattle.fields.specs.Field.{read_at}
-use Rattle.fields.specs.Part.{longest, is_taken}
-use Rattle.fields.proofs.Taken.{TakenAt, taken_at_lem}
+use Rattle.fields.specs.Part.{longest}
+use Rattle.fields.proofs.Taken.{taken_at_lem}
 use Rattle.tables.specs.Tables.{Tables}
 use Rattle.tables.specs.Lie.{pool_of}
-use Rattle.trace.specs.declared.Ending.{Ending}
-use Rattle.trace.specs.declared.Stand.TheVariants as stand
 use Rattle.trace.specs.declared.Stood.{Stood}
-use Rattle.trace.specs.Replay.{Left, untouched, stands}
+use Rattle.trace.specs.Replay.{Left, Ending, untouched, stands}
 use Rattle.trace.specs.Stretch.{Stretch, behind, stretch}
 use Rattle.trace.specs.Stand.{waits, stood}
 use Rattle.fields.proofs.Comes.{reader_at, Comes, a_refusal, the_sizes, an_event, the_end, nothing, read_comes}
@@ -39,6 +40,7 @@ use Rattle.trace.proofs.Along.{Runs, no_event_lem, then_more, stretch-runs}
 use Rattle.parts.specs.declared.Progress.{Progress}
 use Rattle.parts.specs.Arrays.{front, left_in}
 use Rattle.parts.specs.Part.{Taken, rest_taken, stops_at, first_taken, part_taken}
+use Rattle.parts.specs.Work.{Work, no_work, rest_work}
 
 pub data Between : Reader → Left → Type 0 where
   before_sizes : {step : ℕ} → Between (reader_at First step) untouched
@@ -68,7 +70,7 @@ module _ (bytes : List ℕ) where
   runs_lie : {place step : ℕ} (x : Stretch) → Runs bytes place step x → place ≤ length bytes → Stretched bytes place x
   runs_lie x (no_event_lem none) inside = record { least = omega arith; inside = inside }
   runs_lie x (then_more {place = place} {step = step} {rest = rest} read more) inside =
-      let lies = subst (TakenAt bytes place) read (taken_at_lem bytes place (behind step) (ap (λ (y : Read). is_taken y.field) read)) in
+      let lies = taken_at_lem bytes place (behind step) read refl in
       let later = runs_lie rest more lies.inside in
       record { least = omega (arith, lies.least, later.least); inside = later.inside }
 
@@ -87,8 +89,19 @@ unfolding waits
 few_left {last} {bytes} {x} w = ltb-true (length bytes) (x.next + longest) (and_right (not last) _ w.waits)
 
 -- a part that has ended does not wait
-not_waiting : {ending : Ending} → stand.Ended ending ≡ stand.Waits → ⊥
+not_waiting : {ending : Ending} → Some ending ≡ None → ⊥
 not_waiting h = let z : ◌≡◌ {A = ℕ} 0 1 = cc in omega arith
+
+-- the events of a part, once the first field is read
+abbrev pub work_of : List ℕ → (Sizes → Bool) → Result Read RefusedAt → Work
+work_of bytes takes (Err e) = no_work
+work_of bytes takes (Ok x) =
+    elim x.field [
+      | field.Sizes s ↦ cond (takes s) (rest_work bytes x.next x.reader s (fresh s)) no_work
+      | field.Event n e ↦ no_work
+      | field.End ↦ no_work
+      | field.Nothing ↦ no_work
+    ]
 
 module _ (last : Bool) (bytes : List ℕ) where
   module _ (s : Sizes) (q : Pool) where
@@ -96,14 +109,14 @@ module _ (last : Bool) (bytes : List ℕ) where
     stood_on fields = stood fields last (free_records q) q.collector.closed bytes
 
     abbrev Shown : Stood → Type 0
-    Shown x = x.stand ≡ stand.Waits → WaitsAt last bytes x (stands s q)
+    Shown x = x.stand ≡ None → WaitsAt last bytes x (stands s q)
 
     ended-waits : (fields place step : ℕ) → place ≤ length bytes → Shown (stood_on (suc fields) place (reader_at Ended step))
     unfolding stood
     ended-waits fields place step inside =
         by_read (waits last bytes place) refl (read_at bytes place (reader_at Ended step)) (read_comes bytes place step Ended)
       where
-        by_read : (wait : Bool) → waits last bytes place ≡ wait → (x : Read) → Comes bytes place step Ended x
+        by_read : (wait : Bool) → waits last bytes place ≡ wait → (x : Result Read RefusedAt) → Comes bytes place step Ended x
             → Shown (look wait (stood_on fields) (free_records q) q.collector.closed place (reader_at Ended step) x)
         by_read true e x comes = λ h. record { between = behind_end_lem; inside = inside; waits = e }
         by_read false e x (a_refusal why) = λ h. absurd (not_waiting h)
@@ -114,7 +127,7 @@ module _ (last : Bool) (bytes : List ℕ) where
     events_wait place step inside =
         by_read (waits last bytes place) refl (read_at bytes place (behind step)) (read_comes bytes place step Events)
       where
-        by_read : (wait : Bool) → waits last bytes place ≡ wait → (x : Read) → Comes bytes place step Events x
+        by_read : (wait : Bool) → waits last bytes place ≡ wait → (x : Result Read RefusedAt) → Comes bytes place step Events x
             → Shown (look wait (stood_on 1) (free_records q) q.collector.closed place (behind step) x)
         by_read true e x comes = λ h. record { between = behind_sizes; inside = inside; waits = e }
         by_read false e x (a_refusal why) = λ h. absurd (not_waiting h)
@@ -123,7 +136,7 @@ module _ (last : Bool) (bytes : List ℕ) where
 
   -- of a part, by what it answers and leaves
   abbrev PartWaits : Taken → Type 0
-  PartWaits x = x.stood.stand ≡ stand.Waits → WaitsAt last bytes x.stood x.left
+  PartWaits x = x.stood.stand ≡ None → WaitsAt last bytes x.stood x.left
 
   rest_waits : (s : Sizes) (p : Pool) (place step : ℕ) → place ≤ length bytes → PartWaits (rest_taken last bytes place (behind step) s p)
   unfolding rest_taken
@@ -131,18 +144,18 @@ module _ (last : Bool) (bytes : List ℕ) where
       let x = stretch bytes place step in events_wait s (after s p x.events) x.next x.step (stretched bytes place step inside).inside
 
   -- the first field, once it is read
-  abbrev pub first_of : (Sizes → Bool) → Reader → Read → Taken
-  first_of takes reader x =
+  abbrev pub first_of : (Sizes → Bool) → Reader → Result Read RefusedAt → Taken
+  first_of takes reader (Err e) = stops_at e.why e.place reader
+  first_of takes reader (Ok x) =
       elim x.field [
         | field.Sizes s ↦ cond (takes s) (rest_taken last bytes x.next x.reader s (fresh s)) (stops_at WrongSize 0 reader)
         | field.Event n e ↦ stops_at WrongTag 0 reader
         | field.End ↦ stops_at WrongTag 0 reader
         | field.Nothing ↦ stops_at WrongTag 0 reader
-        | field.Refused why at ↦ stops_at why at reader
       ]
 
   abbrev pub first_waits : Reader → Taken
-  first_waits reader = record { lines = []; stood = record { stand = stand.Waits; next = 0; reader = reader }; left = untouched }
+  first_waits reader = record { lines = []; stood = record { stand = None; next = 0; reader = reader }; left = untouched }
 
   module _ (takes : Sizes → Bool) where
     first_waits_lem : (step : ℕ) → PartWaits (first_taken takes last bytes (reader_at First step))
@@ -154,7 +167,7 @@ module _ (last : Bool) (bytes : List ℕ) where
         by_takes true s next inside = rest_waits s (fresh s) next 0 inside
         by_takes false s next inside = λ h. absurd (not_waiting h)
 
-        by_read : (wait : Bool) → waits last bytes 0 ≡ wait → (x : Read) → Comes bytes 0 step First x
+        by_read : (wait : Bool) → waits last bytes 0 ≡ wait → (x : Result Read RefusedAt) → Comes bytes 0 step First x
             → PartWaits (cond wait (first_waits (reader_at First step)) (first_of takes (reader_at First step) x))
         by_read true e x comes = λ h. record { between = before_sizes; inside = omega arith; waits = e }
         by_read false e x (a_refusal why) = λ h. absurd (not_waiting h)

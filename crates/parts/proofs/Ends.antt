@@ -7,6 +7,7 @@ use mathlib.Core.Bool.{Bool, true, false, cond}
 use mathlib.Core.List.{List}
 use native.Mathlib.Omega.{arith}
 use lib.ListN.{length}
+use Rattle.std.specs.Prelude.{Option, Some, None, Result, Ok, Err}
 use Rattle.rules.specs.declared.Sizes.{Sizes}
 use Rattle.rules.specs.declared.Refusal.TheVariants.{WrongSize}
 use Rattle.rules.specs.Pool.{Pool, fresh}
@@ -15,12 +16,9 @@ use Rattle.fields.specs.declared.Stage.{Stage}
 use Rattle.fields.specs.declared.Stage.TheVariants.{First, Events, Ended}
 use Rattle.fields.specs.declared.Reader.{Reader}
 use Rattle.fields.specs.declared.Read.{Read}
+use Rattle.fields.specs.declared.RefusedAt.{RefusedAt}
 use Rattle.fields.specs.Field.{read_at}
-use Rattle.trace.specs.declared.Ending.{Ending}
-use Rattle.trace.specs.declared.Ending.TheVariants.{Whole, Stopped}
-use Rattle.trace.specs.declared.Stand.{Stand}
-use Rattle.trace.specs.declared.Stand.TheVariants as stand
-use Rattle.trace.specs.Replay.{Left}
+use Rattle.trace.specs.Replay.{Left, Ending}
 use Rattle.trace.specs.Stretch.{behind, stretch}
 use Rattle.trace.specs.Stand.{waits, stood}
 use Rattle.fields.proofs.Comes.{reader_at, Comes, a_refusal, the_sizes, an_event, the_end, nothing, read_comes}
@@ -29,12 +27,12 @@ use Rattle.parts.specs.Part.{Taken, rest_taken, stops_at, first_taken, part_take
 use Rattle.parts.proofs.Between.{Between, before_sizes, behind_sizes, behind_end_lem, stretched, first_of, first_waits}
 
 abbrev pub PlaceBy : ℕ → Ending → Type 0
-PlaceBy n (Whole free closed) = Unit
-PlaceBy n (Stopped why place) = place ≤ n
+PlaceBy n (Ok w) = Unit
+PlaceBy n (Err e) = e.place ≤ n
 
-abbrev pub EndsBy : ℕ → Stand → Type 0
-EndsBy n stand.Waits = Unit
-EndsBy n (stand.Ended ending) = PlaceBy n ending
+abbrev pub EndsBy : ℕ → Option Ending → Type 0
+EndsBy n None = Unit
+EndsBy n (Some ending) = PlaceBy n ending
 
 module _ (last : Bool) (free closed : ℕ) (bytes : List ℕ) where
   stood-ends : (fields place step : ℕ) (stage : Stage) → place ≤ length bytes
@@ -44,7 +42,7 @@ module _ (last : Bool) (free closed : ℕ) (bytes : List ℕ) where
   stood-ends (suc fields) place step stage inside =
       by_read (read_at bytes place (reader_at stage step)) (read_comes bytes place step stage) (waits last bytes place) (λ next stage. stood-ends fields next step stage)
     where
-      by_read : {stage : Stage} (x : Read) → Comes bytes place step stage x → (wait : Bool)
+      by_read : {stage : Stage} (x : Result Read RefusedAt) → Comes bytes place step stage x → (wait : Bool)
           → ((next : ℕ) (stage : Stage) → next ≤ length bytes → EndsBy (length bytes) (stood fields last free closed bytes next (reader_at stage step)).stand)
           → EndsBy (length bytes)
           (look wait (stood fields last free closed bytes) free closed place (reader_at stage step) x).stand
@@ -76,7 +74,7 @@ module _ (last : Bool) (bytes : List ℕ) where
         by_takes true s next inside = rest_ends s (fresh s) next 0 inside
         by_takes false s next inside = omega arith
 
-        by_read : (wait : Bool) (x : Read) → Comes bytes 0 step First x
+        by_read : (wait : Bool) (x : Result Read RefusedAt) → Comes bytes 0 step First x
             → Inside (cond wait (first_waits last bytes (reader_at First step)) (first_of last bytes takes (reader_at First step) x))
         by_read true x comes = tt
         by_read false x (a_refusal why) = omega arith

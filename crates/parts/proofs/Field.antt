@@ -13,8 +13,10 @@ use native.Mathlib.Nat.{zero-add}
 use borrow.Author.Tests.{ltb-false, le-ltb, eqb-true, eqb-false}
 use lib.Dec.{eqb, ltb}
 use lib.ListN.{length, take, drop, length-append, length-take, take-append-drop, get_or-append}
+use Rattle.std.specs.Prelude.{Result, Ok, Err}
 use Rattle.rules.specs.declared.Event.TheVariants.{Make, Move, Drop, Load, Store, Look, Post}
-use Rattle.rules.specs.declared.Refusal.TheVariants.{WrongSize, WrongStep, WrongCount}
+use Rattle.rules.specs.declared.Refusal.{Refusal}
+use Rattle.rules.specs.declared.Refusal.TheVariants.{WrongSize, WrongStep, WrongCount, ExtraByte}
 use Rattle.rules.specs.Size.{in_range}
 use Rattle.rules.specs.Outcome.{Test}
 use Rattle.laws.proofs.Tests.{never, or_left}
@@ -22,12 +24,12 @@ use Rattle.laws.proofs.Refusals.{Unrefused}
 use Rattle.fields.specs.declared.Stage.{Stage}
 use Rattle.fields.specs.declared.Stage.TheVariants.{First, Events, Ended}
 use Rattle.fields.specs.declared.Reader.{Reader}
-use Rattle.fields.specs.declared.Field.{Field}
 use Rattle.fields.specs.declared.Field.TheVariants as field
 use Rattle.fields.specs.declared.Read.{Read}
-use Rattle.fields.specs.Field.{byte_at, two_at, four_at, sizes_tag, end_tag, payload_of, payload_for, payload_at, board_at, sizes_at, event_at, misplaced, payload_test, refusals, refused_at, decide, taken, behind_end, WholeAt, field_at, read_at}
-use Rattle.fields.specs.Part.{longest, moved_field, moved, is_taken}
-use Rattle.fields.proofs.Tags.{either, payload_least, sizes_payload, other_payload}
+use Rattle.fields.specs.declared.RefusedAt.{RefusedAt}
+use Rattle.fields.specs.Field.{byte_at, two_at, four_at, sizes_tag, end_tag, payload_of, payload_for, payload_at, board_at, sizes_at, event_at, misplaced, payload_test, refusals, refused_at, decide, taken, behind_end, WholeAt, field_at, placed, read_at}
+use Rattle.fields.specs.Part.{longest, moved, is_taken}
+use Rattle.fields.proofs.Tags.{payload_least, sizes_payload, other_payload}
 use Rattle.fields.proofs.Order.{at_stage}
 use Rattle.fields.proofs.Part.{read_in_part}
 
@@ -38,21 +40,21 @@ same_choice false left right = right refl
 
 -- ---- the tests of a field that is taken
 
-module _ (place : ℕ) (reader : Reader) (x : Read) where
-  none_refuses : (tests : List Test) → is_taken (decide place reader tests x).field ≡ true → Unrefused tests
+module _ (x : Read) where
+  none_refuses : (tests : List Test) {y : Read} → decide tests x ≡ Ok y → Unrefused tests × (x ≡ y)
   unfolding decide
-  none_refuses [] h = tt
-  none_refuses (t ∷ tests) h = by_test t.when (none_refuses tests) h
+  none_refuses [] h = (tt, let same : x ≡ _ = cc in same)
+  none_refuses (t ∷ tests) {y} h = by_test t.when (none_refuses tests) h
     where
-      by_test : (b : Bool) → (is_taken (decide place reader tests x).field ≡ true → Unrefused tests)
-          → is_taken (cond b (refused_at t.why place reader) (decide place reader tests x)).field ≡ true → (b ≡ false) × Unrefused tests
-      by_test true more h = absurd (never h)
-      by_test false more h = (refl, more h)
+      by_test : (b : Bool) → (decide tests x ≡ Ok y → Unrefused tests × (x ≡ y))
+          → cond b (Err t.why) (decide tests x) ≡ Ok y → ((b ≡ false) × Unrefused tests) × (x ≡ y)
+      by_test true more h = absurd (let z : ◌≡◌ {A = ℕ} 0 1 = cc in omega arith)
+      by_test false more h = let rest = more h in ((refl, rest.0), rest.1)
 
-  all_pass : (tests : List Test) → Unrefused tests → decide place reader tests x ≡ x
+  all_pass : (tests : List Test) → Unrefused tests → decide tests x ≡ Ok x
   unfolding decide
   all_pass [] h = refl
-  all_pass (t ∷ tests) h = ap (λ (b : Bool). cond b (refused_at t.why place reader) (decide place reader tests x)) h.0 ∙ all_pass tests h.1
+  all_pass (t ∷ tests) h = ap (λ (b : Bool). cond b (Err t.why) (decide tests x)) h.0 ∙ all_pass tests h.1
 
 -- ---- how long the payload of an event is
 
@@ -227,35 +229,42 @@ module _ (part more : List ℕ) (i : ℕ) (reader : Reader) where
         whole = ltb-false (length part) (i + 3 + payload_at part i) passed.1.1.1.0;
       }
 
-  field_same : is_taken (field_at part i reader).field ≡ true → field_at (part ++ more) i reader ≡ field_at part i reader
+  field_same : {x : Read} → field_at part i reader ≡ Ok x → field_at (part ++ more) i reader ≡ Ok x
   unfolding field_at
   field_same h =
-      let passed = none_refuses i reader (taken part i reader) (refusals part i reader) h in
-      let lies = lies_whole passed in
-      all_pass i reader (taken (part ++ more) i reader) (refusals (part ++ more) i reader) (pass_same part more i lies reader passed)
-      ∙ taken_same part more i lies reader
-      ∙ sym (all_pass i reader (taken part i reader) (refusals part i reader) passed)
+      let passed = none_refuses (taken part i reader) (refusals part i reader) h in
+      let lies = lies_whole passed.0 in
+      all_pass (taken (part ++ more) i reader) (refusals (part ++ more) i reader) (pass_same part more i lies reader passed.0)
+      ∙ ap Ok (taken_same part more i lies reader ∙ passed.1)
 
-  pub taken_in_part : is_taken (read_at part i reader).field ≡ true → read_at (part ++ more) i reader ≡ read_at part i reader
-  unfolding read_at behind_end
-  taken_in_part = by_stage reader.stage
+  -- what is read there is not refused
+  read_there : {r : Result Read Refusal} {x : Read} → placed i r ≡ Ok x → r ≡ Ok x
+  read_there {r} {x} = by_result r
     where
-      by_stage : (stage : Stage) → is_taken (at_stage part i reader stage).field ≡ true → at_stage (part ++ more) i reader stage ≡ at_stage part i reader stage
-      by_stage First h = field_same h
-      by_stage Events h = field_same h
-      by_stage Ended h = absurd (either (λ (x : Read). is_taken x.field ≡ true → ⊥) (ltb i (length part)) never never h)
+      by_result : (r : Result Read Refusal) → placed i r ≡ Ok x → r ≡ Ok x
+      by_result (Ok y) h = let same : y ≡ x = cc in ap Ok same
+      by_result (Err why) h = absurd (let z : ◌≡◌ {A = ℕ} 0 1 = cc in omega arith)
+
+  pub taken_in_part : (x : Read) → read_at part i reader ≡ Ok x → is_taken x.field ≡ true → read_at (part ++ more) i reader ≡ Ok x
+  unfolding read_at behind_end
+  taken_in_part x read takes = by_stage reader.stage read
+    where
+      by_stage : (stage : Stage) → placed i (at_stage part i reader stage) ≡ Ok x → placed i (at_stage (part ++ more) i reader stage) ≡ Ok x
+      by_stage First h = ap (placed i) (field_same (read_there h))
+      by_stage Events h = ap (placed i) (field_same (read_there h))
+      by_stage Ended h = absurd (by_more (ltb i (length part)) h)
+        where
+          by_more : (b : Bool) → placed i (cond b (Err ExtraByte) (Ok (record { field = field.Nothing; next = i; reader = reader }))) ≡ Ok x → ⊥
+          by_more true h = let z : ◌≡◌ {A = ℕ} 0 1 = cc in omega arith
+          by_more false h =
+              let same : record { field = field.Nothing; next = i; reader = reader } ≡ x = cc in
+              never (ap (λ (y : Read). is_taken y.field) same ∙ takes)
 
   -- nothing is moved
-  field_unmoved : (f : Field) → moved_field 0 f ≡ f
-  field_unmoved (field.Sizes s) = refl
-  field_unmoved (field.Event step e) = refl
-  field_unmoved field.End = refl
-  field_unmoved field.Nothing = refl
-  field_unmoved (field.Refused why place) = ap (field.Refused why) (zero-add place)
-
-  unmoved : (x : Read) → moved 0 x ≡ x
+  unmoved : (r : Result Read RefusedAt) → moved 0 r ≡ r
   unfolding moved
-  unmoved x = λ k. record { field = field_unmoved x.field k; next = zero-add x.next k; reader = x.reader }
+  unmoved (Ok x) = λ k. Ok (record { field = x.field; next = zero-add x.next k; reader = x.reader })
+  unmoved (Err e) = λ k. refused_at e.why (zero-add e.place k)
 
   pub read_in_front : (i + longest ≤ length part) ⊎ (more ≡ []) → read_at (part ++ more) i reader ≡ read_at part i reader
   read_in_front enough =

@@ -1,10 +1,12 @@
 -- How a part begins, on the arrays, by whether the sizes field has been read.
 --     takes_same                 the same of another part
 --     first_waits_lem                fewer bytes than a field may have, and more may come
---     first_refused, first_large, first_other     what comes first is refused
---     first_sizes                the sizes come first: a fresh pool lies in the arrays, and the rest is a part behind the sizes field
+--     first_refused, first_large, first_only_sizes     what comes first is refused
+--     first_goes                 the sizes come first: a fresh pool lies in the arrays, and the rest is a part behind the sizes field
 --     later_small, later_events, later_ended     the sizes field has been read before, and the end field has not, or has
+--     whole_lines, whole_sound   the lines of a part are those of its events, and these are done on a sound pool
 --     goes-taken                 the events are done, and how the trace stands behind them is asked: that is the part
+--     goes_work, goes-told, stays-told     the events of a part, and what is told of them; of a part with no event nothing is
 -- Assumes nothing.
 use Prim.Native.Nat.{ℕ, ◌+◌}
 use mathlib.Core.Path.{◌≡◌, refl, sym, ap, ◌∙◌, subst}
@@ -13,10 +15,10 @@ use mathlib.Core.List.{List, []}
 use native.Mathlib.Omega.{arith}
 use native.Mathlib.Nat.{add-zero}
 use lib.ListN.{length, take}
+use Rattle.std.specs.Prelude.{Option, Some, None, Result, Ok, Err}
 use Rattle.rules.specs.declared.Sizes.{Sizes}
 use Rattle.rules.specs.declared.Event.{Event}
-use Rattle.rules.specs.declared.Refusal.{Refusal}
-use Rattle.rules.specs.declared.Refusal.TheVariants.{WrongSize, WrongTag}
+use Rattle.rules.specs.declared.Refusal.TheVariants.{WrongSize}
 use Rattle.rules.specs.Size.{in_range}
 use Rattle.rules.specs.Pool.{Pool, fresh}
 use Rattle.tables.specs.Bits.{word_count}
@@ -27,43 +29,28 @@ use Rattle.fresh.specs.Free.{free_in}
 use Rattle.fields.specs.declared.Stage.{Stage}
 use Rattle.fields.specs.declared.Stage.TheVariants.{First, Events, Ended}
 use Rattle.fields.specs.declared.Reader.{Reader}
-use Rattle.fields.specs.declared.Field.{Field}
 use Rattle.fields.specs.declared.Field.TheVariants as field
 use Rattle.fields.specs.declared.Read.{Read}
+use Rattle.fields.specs.declared.RefusedAt.{RefusedAt}
 use Rattle.fields.specs.Field.{read_at}
-use Rattle.trace.specs.declared.Ending.TheVariants.{Stopped}
+use Rattle.fields.proofs.Comes.{reader_at, sizes_read}
 use Rattle.trace.specs.declared.Ran.{Ran}
-use Rattle.trace.specs.declared.Stand.{Stand}
-use Rattle.trace.specs.declared.Stand.TheVariants as stand
-use Rattle.trace.specs.Replay.{Left, untouched, stands}
+use Rattle.trace.specs.Replay.{Left, Ending, untouched, stands, at_start}
 use Rattle.trace.specs.Stretch.{behind, stretch, lines_behind, put, ran_on}
 use Rattle.trace.specs.Stand.{waits, stand_behind}
-use Rattle.fields.proofs.Comes.{reader_at, Comes, a_refusal, the_sizes, an_event, the_end, nothing, read_comes}
+use Rattle.trace.specs.Told.{Telling, told_by, told_on}
+use Rattle.trace.proofs.FirstField.{first_only, first_sizes}
 use Rattle.parts.specs.declared.Progress.{Progress}
 use Rattle.parts.specs.declared.Part.{Part}
 use Rattle.parts.specs.Part.{Taken, rest_taken, stops_at, first_taken, part_taken}
 use Rattle.parts.specs.Arrays as arrays
 use Rattle.parts.specs.Arrays.{is_small, front, left_in, Holds, Later, HoldsAt, Set, part_of, Takes}
-use Rattle.parts.specs.Work.{Work, no_work, rest_work, first_work, part_work}
+use Rattle.parts.specs.Work.{Work, no_work, rest_work, first_work, part_work, work_told}
 use Rattle.parts.specs.Begun.{whole_part, whole_work, GoesOn, StaysSo}
 use Rattle.parts.proofs.Aside.{at_rest, aside_known, aside_pool}
+use Rattle.parts.proofs.Between.{first_of, work_of}
 use Rattle.parts.proofs.Rest.{left_later, events_taken_lem, ended-taken}
-
--- ---- a sizes field
-
-pub record SizesRead (s : Sizes) (y : Read) : Type 0 where
-  pub range : in_range s ≡ true
-  pub reader : y.reader ≡ reader_at Events 0
-
-sizes_read_lem : {bytes : List ℕ} {place step : ℕ} {stage : Stage} (y : Read) → Comes bytes place step stage y → (s : Sizes) → y.field ≡ field.Sizes s
-    → SizesRead s y
-sizes_read_lem y (a_refusal why) s reads = absurd (let z : ◌≡◌ {A = ℕ} 0 1 = cc in omega arith)
-sizes_read_lem y (the_sizes other next range lies) s reads =
-    let same : other ≡ s = cc in
-    record { range = subst (λ (s : Sizes). in_range s ≡ true) same range; reader = refl }
-sizes_read_lem y (an_event e next lies) s reads = absurd (let z : ◌≡◌ {A = ℕ} 0 1 = cc in omega arith)
-sizes_read_lem y (the_end next lies) s reads = absurd (let z : ◌≡◌ {A = ℕ} 0 1 = cc in omega arith)
-sizes_read_lem y nothing s reads = absurd (let z : ◌≡◌ {A = ℕ} 0 1 = cc in omega arith)
+use Rattle.parts.proofs.Works.{work_lines, rest_lines, first_lines, SoundWork, first_sound}
 
 -- ---- the same of another part
 
@@ -93,6 +80,9 @@ module _ {x : Progress} {t : Tables} (set : Set x t) (last : Bool) (bytes : List
     at_first_lem : HoldsAt First x t
     at_first_lem = subst (λ (stage : Stage). HoldsAt stage x t) first set.holds
 
+    at_begin : x.reader ≡ at_start
+    at_begin = λ j. record { stage = first j; step = at_first_lem.1 j }
+
     first_left : left_in x t ≡ untouched
     unfolding left_in
     first_left =
@@ -103,11 +93,15 @@ module _ {x : Progress} {t : Tables} (set : Set x t) (last : Bool) (bytes : List
     unfolding part_taken
     first_whole = ap (part_taken is_small last bytes x.reader) first_left
 
+    first_whole_work : whole_work x t last bytes ≡ first_work is_small last bytes x.reader
+    unfolding part_work
+    first_whole_work = ap (part_work is_small last bytes x.reader) first_left
+
     -- nothing is done
-    abbrev undone : Stand → Taken
+    abbrev undone : Option Ending → Taken
     undone how = record { lines = []; stood = record { stand = how; next = 0; reader = x.reader }; left = untouched }
 
-    takes_none : (room : List ℕ) {how : Stand} → whole ≡ undone how → Takes whole x room (record { stand = how; next = 0; events = 0; progress = x }) t room
+    takes_none : (room : List ℕ) {how : Option Ending} → whole ≡ undone how → Takes whole x room (record { stand = how; next = 0; events = 0; progress = x }) t room
     unfolding put lines_behind
     takes_none room none =
         record {
@@ -121,122 +115,83 @@ module _ {x : Progress} {t : Tables} (set : Set x t) (last : Bool) (bytes : List
         }
 
     -- by the field that was read
-    abbrev chosen : Read → Taken
-    chosen y =
-        elim y.field [
-          | field.Sizes s ↦ cond (is_small s) (rest_taken last bytes y.next y.reader s (fresh s)) (stops_at WrongSize 0 x.reader)
-          | field.Event n e ↦ stops_at WrongTag 0 x.reader
-          | field.End ↦ stops_at WrongTag 0 x.reader
-          | field.Nothing ↦ stops_at WrongTag 0 x.reader
-          | field.Refused why at ↦ stops_at why at x.reader
-        ]
-
-    abbrev looked : Bool → Read → Taken
-    looked wait y = cond wait (undone stand.Waits) (chosen y)
+    abbrev looked : Bool → Result Read RefusedAt → Taken
+    looked wait r = cond wait (undone None) (first_of last bytes is_small x.reader r)
 
     first_looked : whole ≡ looked (waits last bytes 0) (read_at bytes 0 x.reader)
     unfolding first_taken
     first_looked = first_whole
 
     -- and its events
-    abbrev work_of : Bool → Read → Work
-    work_of wait y =
-        cond wait no_work
-        (elim y.field [
-          | field.Sizes s ↦ cond (is_small s) (rest_work bytes y.next y.reader s (fresh s)) no_work
-          | field.Event n e ↦ no_work
-          | field.End ↦ no_work
-          | field.Nothing ↦ no_work
-          | field.Refused why at ↦ no_work
-        ])
+    abbrev work_looked : Bool → Result Read RefusedAt → Work
+    work_looked wait r = cond wait no_work (work_of bytes is_small r)
 
-    first_work_lem : whole_work x t last bytes ≡ work_of (waits last bytes 0) (read_at bytes 0 x.reader)
-    unfolding part_work first_work
-    first_work_lem = ap (part_work is_small last bytes x.reader) first_left
+    first_work_lem : whole_work x t last bytes ≡ work_looked (waits last bytes 0) (read_at bytes 0 x.reader)
+    unfolding first_work
+    first_work_lem = first_whole_work
 
-    pub first_waits_lem : waits last bytes 0 ≡ true → StaysSo x t last bytes (record { stand = stand.Waits; next = 0; events = 0; progress = x })
+    pub first_waits_lem : waits last bytes 0 ≡ true → StaysSo x t last bytes (record { stand = None; next = 0; events = 0; progress = x })
     first_waits_lem wait =
         record {
           none = refl;
-          idle = ap (λ (z : Work). z.events) (first_work_lem ∙ ap (λ (b : Bool). work_of b (read_at bytes 0 x.reader)) wait);
+          idle = ap (λ (z : Work). z.events) (first_work_lem ∙ ap (λ (b : Bool). work_looked b (read_at bytes 0 x.reader)) wait);
           takes = λ room. takes_none room (first_looked ∙ ap (λ (b : Bool). looked b (read_at bytes 0 x.reader)) wait);
         }
 
-    module _ (go : waits last bytes 0 ≡ false) {y : Read} (read : y ≡ read_at bytes 0 x.reader) where
-      abbrev with_field : Field → Read
-      with_field f = record { field = f; next = y.next; reader = y.reader }
+    module _ (go : waits last bytes 0 ≡ false) where
+      first_chosen : {r : Result Read RefusedAt} → read_at bytes 0 x.reader ≡ r → whole ≡ first_of last bytes is_small x.reader r
+      first_chosen read = first_looked ∙ ap (λ (b : Bool). looked b (read_at bytes 0 x.reader)) go ∙ ap (first_of last bytes is_small x.reader) read
 
-      first_chosen : {f : Field} → y.field ≡ f → whole ≡ chosen (with_field f)
-      first_chosen reads =
-          first_looked
-          ∙ ap (λ (b : Bool). looked b (read_at bytes 0 x.reader)) go
-          ∙ ap chosen (sym read)
-          ∙ ap (λ (f : Field). chosen (with_field f)) reads
+      chosen_work : {r : Result Read RefusedAt} → read_at bytes 0 x.reader ≡ r → whole_work x t last bytes ≡ work_of bytes is_small r
+      chosen_work read = first_work_lem ∙ ap (λ (b : Bool). work_looked b (read_at bytes 0 x.reader)) go ∙ ap (work_of bytes is_small) read
 
-      chosen_work : {f : Field} → y.field ≡ f → whole_work x t last bytes ≡ work_of false (with_field f)
-      chosen_work reads =
-          first_work_lem
-          ∙ ap (λ (b : Bool). work_of b (read_at bytes 0 x.reader)) go
-          ∙ ap (work_of false) (sym read)
-          ∙ ap (λ (f : Field). work_of false (with_field f)) reads
+      stops_first : (e : RefusedAt) → whole ≡ stops_at e.why e.place x.reader → whole_work x t last bytes ≡ no_work
+          → StaysSo x t last bytes (record { stand = Some (Err e); next = 0; events = 0; progress = x })
+      stops_first e none work = record { none = refl; idle = ap (λ (z : Work). z.events) work; takes = λ room. takes_none room none }
 
-      stops_first : {why : Refusal} {at : ℕ} {part : Part} → part ≡ record { stand = stand.Ended (Stopped why at); next = 0; events = 0; progress = x }
-          → whole ≡ stops_at why at x.reader → whole_work x t last bytes ≡ no_work → StaysSo x t last bytes part
-      stops_first answered none work =
-          subst (StaysSo x t last bytes) (sym answered) (record { none = refl; idle = ap (λ (z : Work). z.events) work; takes = λ room. takes_none room none })
+      pub first_refused : {e : RefusedAt} → read_at bytes 0 x.reader ≡ Err e → StaysSo x t last bytes (record { stand = Some (Err e); next = 0; events = 0; progress = x })
+      first_refused {e} read = stops_first e (first_chosen read) (chosen_work read)
 
-      pub first_refused : {why : Refusal} {at : ℕ} {part : Part} → y.field ≡ field.Refused why at
-          → part ≡ record { stand = stand.Ended (Stopped why at); next = 0; events = 0; progress = x } → StaysSo x t last bytes part
-      first_refused reads answered = stops_first answered (first_chosen reads) (chosen_work reads)
+      module _ {y : Read} (read : read_at bytes 0 x.reader ≡ Ok y) where
+        read_first : read_at bytes 0 at_start ≡ Ok y
+        read_first = ap (read_at bytes 0) (sym at_begin) ∙ read
 
-      pub first_large : {s : Sizes} {part : Part} → y.field ≡ field.Sizes s → is_small s ≡ false
-          → part ≡ record { stand = stand.Ended (Stopped WrongSize 0); next = 0; events = 0; progress = x } → StaysSo x t last bytes part
-      first_large {s} reads large answered =
-          stops_first answered
-          (first_chosen reads ∙ ap (λ (b : Bool). cond b (rest_taken last bytes y.next y.reader s (fresh s)) (stops_at WrongSize 0 x.reader)) large)
-          (chosen_work reads ∙ ap (λ (b : Bool). cond b (rest_work bytes y.next y.reader s (fresh s)) no_work) large)
+        pub first_only_sizes : ((s : Sizes) → y.field ≡ field.Sizes s → ⊥) → ⊥
+        first_only_sizes other = first_only bytes read_first other
 
-      pub first_other : {part : Part} → ((s : Sizes) → y.field ≡ field.Sizes s → ⊥)
-          → ((why : Refusal) (at : ℕ) → y.field ≡ field.Refused why at → ⊥)
-          → part ≡ record { stand = stand.Ended (Stopped WrongTag 0); next = 0; events = 0; progress = x } → StaysSo x t last bytes part
-      first_other sizes refused answered =
-          let none = by_field y.field sizes refused in stops_first answered (first_chosen refl ∙ none.0) (chosen_work refl ∙ none.1)
-        where
-          by_field : (f : Field) → ((s : Sizes) → f ≡ field.Sizes s → ⊥) → ((why : Refusal) (at : ℕ) → f ≡ field.Refused why at → ⊥)
-              → (chosen (with_field f) ≡ stops_at WrongTag 0 x.reader) × (work_of false (with_field f) ≡ no_work)
-          by_field (field.Sizes s) sizes refused = absurd (sizes s refl)
-          by_field (field.Event n e) sizes refused = (refl, refl)
-          by_field field.End sizes refused = (refl, refl)
-          by_field field.Nothing sizes refused = (refl, refl)
-          by_field (field.Refused why at) sizes refused = absurd (refused why at refl)
+        -- the sizes come first
+        module _ {s : Sizes} (reads : y.field ≡ field.Sizes s) where
+          sized : (y ≡ sizes_read s y.next) × (in_range s ≡ true)
+          sized = first_sizes bytes read_first reads
 
-      -- the sizes come first
-      module _ {s : Sizes} (reads : y.field ≡ field.Sizes s) (small : is_small s ≡ true) where
-        sized : SizesRead s y
-        sized =
-            sizes_read_lem y
-            (subst (Comes bytes 0 x.reader.step x.reader.stage) (sym read) (read_comes bytes 0 x.reader.step x.reader.stage))
-            s
-            reads
+          there : read_at bytes 0 x.reader ≡ Ok (sizes_read s y.next)
+          there = read ∙ ap Ok sized.0
 
-        fresh_lies : fresh s ≡ pool_of s (front s t) at_rest
-        fresh_lies = sym (ap (λ (z : Tables). pool_of s (front s z) at_rest) at_first_lem.0 ∙ aside_pool s small)
+          pub first_large : is_small s ≡ false → StaysSo x t last bytes (record { stand = Some (Err (record { why = WrongSize; place = 0 })); next = 0; events = 0; progress = x })
+          first_large large =
+              stops_first _
+              (first_chosen there ∙ ap (λ (b : Bool). cond b (rest_taken last bytes y.next (reader_at Events 0) s (fresh s)) (stops_at WrongSize 0 x.reader)) large)
+              (chosen_work there ∙ ap (λ (b : Bool). cond b (rest_work bytes y.next (reader_at Events 0) s (fresh s)) no_work) large)
 
-        pub first_sizes : GoesOn x t last bytes (record { reader = y.reader; sizes = s; collector = at_rest }) y.next
-        first_sizes =
-            record {
-              holds = record { small = small; known = subst (λ (z : Tables). Known s (front s z) at_rest) (sym at_first_lem.0) (aside_known s small sized.range) };
-              events = ap (λ (z : Reader). z.stage) sized.reader;
-              step = ap (λ (z : Reader). z.step) sized.reader ∙ sym at_first_lem.1;
-              same =
-                  first_chosen reads
-                  ∙ ap (λ (b : Bool). cond b (rest_taken last bytes y.next y.reader s (fresh s)) (stops_at WrongSize 0 x.reader)) small
-                  ∙ ap (rest_taken last bytes y.next y.reader s) fresh_lies;
-              work =
-                  chosen_work reads
-                  ∙ ap (λ (b : Bool). cond b (rest_work bytes y.next y.reader s (fresh s)) no_work) small
-                  ∙ ap (rest_work bytes y.next y.reader s) fresh_lies;
-            }
+          module _ (small : is_small s ≡ true) where
+            fresh_lies : fresh s ≡ pool_of s (front s t) at_rest
+            fresh_lies = sym (ap (λ (z : Tables). pool_of s (front s z) at_rest) at_first_lem.0 ∙ aside_pool s small)
+
+            pub first_goes : GoesOn x t last bytes (record { reader = y.reader; sizes = s; collector = at_rest }) y.next
+            first_goes =
+                record {
+                  holds = record { small = small; known = subst (λ (z : Tables). Known s (front s z) at_rest) (sym at_first_lem.0) (aside_known s small sized.1) };
+                  events = ap (λ (z : Read). z.reader.stage) sized.0;
+                  step = ap (λ (z : Read). z.reader.step) sized.0 ∙ sym at_first_lem.1;
+                  same =
+                      first_chosen there
+                      ∙ ap (λ (b : Bool). cond b (rest_taken last bytes y.next (reader_at Events 0) s (fresh s)) (stops_at WrongSize 0 x.reader)) small
+                      ∙ (λ j. rest_taken last bytes y.next (sym sized.0 j).reader s (fresh_lies j));
+                  work =
+                      chosen_work there
+                      ∙ ap (λ (b : Bool). cond b (rest_work bytes y.next (reader_at Events 0) s (fresh s)) no_work) small
+                      ∙ (λ j. rest_work bytes y.next (sym sized.0 j).reader s (fresh_lies j));
+                }
 
   -- ---- behind the sizes field
 
@@ -261,6 +216,16 @@ module _ {x : Progress} {t : Tables} (set : Set x t) (last : Bool) (bytes : List
     unfolding left_in part_work
     work_later = ap (part_work is_small last bytes x.reader) (left_later x.reader.stage (stands x.sizes pool) (subst Later (sym is) later))
 
+    later_lines : whole.lines ≡ work_lines x.reader.step (whole_work x t last bytes)
+    later_lines =
+        ap (λ (z : Taken). z.lines) whole_later
+        ∙ rest_lines last bytes 0 x.reader x.sizes pool
+        ∙ ap (work_lines x.reader.step) (sym work_later)
+
+    later_sound : SoundWork (whole_work x t last bytes)
+    unfolding rest_work
+    later_sound = subst SoundWork (sym work_later) (later_holds.known.sizes, later_holds.known.tables.sound)
+
   pub later_small : x.reader.stage ≡ Ended → is_small x.sizes ≡ true
   later_small is = (later_holds Ended tt is).small
 
@@ -280,10 +245,31 @@ module _ {x : Progress} {t : Tables} (set : Set x t) (last : Bool) (bytes : List
         takes = λ room. takes_same (whole_later Ended tt is) refl (ended-taken set.long (later_holds Ended tt is) last bytes 0 room is refl);
       })
 
+  -- ---- the lines
+
+  pub whole_lines : whole.lines ≡ work_lines x.reader.step (whole_work x t last bytes)
+  whole_lines = by_stage x.reader.stage refl
+    where
+      by_stage : (stage : Stage) → x.reader.stage ≡ stage → whole.lines ≡ work_lines x.reader.step (whole_work x t last bytes)
+      by_stage First is =
+          ap (λ (z : Taken). z.lines) (first_whole is)
+          ∙ subst (λ (r : Reader). (first_taken is_small last bytes r).lines ≡ work_lines r.step (first_work is_small last bytes r)) (sym (at_begin is)) (first_lines is_small last bytes)
+          ∙ ap (work_lines x.reader.step) (sym (first_whole_work is))
+      by_stage Events is = later_lines Events tt is
+      by_stage Ended is = later_lines Ended tt is
+
+  pub whole_sound : SoundWork (whole_work x t last bytes)
+  whole_sound = by_stage x.reader.stage refl
+    where
+      by_stage : (stage : Stage) → x.reader.stage ≡ stage → SoundWork (whole_work x t last bytes)
+      by_stage First is = subst SoundWork (ap (first_work is_small last bytes) (sym (at_begin is)) ∙ sym (first_whole_work is)) (first_sound is_small last bytes)
+      by_stage Events is = later_sound Events tt is
+      by_stage Ended is = later_sound Ended tt is
+
 -- ---- the events of a part
 
-module _ {x : Progress} {t : Tables} (set : Set x t) (last : Bool) (bytes : List ℕ) {y : Progress} {place : ℕ} (goes : GoesOn x t last bytes y place) where
-  pub goes-taken : (room : List ℕ) {ran : Ran} {left : Tables} {filled : List ℕ} {part : Part}
+module _ {x : Progress} {t : Tables} (last : Bool) (bytes : List ℕ) {y : Progress} {place : ℕ} (goes : GoesOn x t last bytes y place) where
+  pub goes-taken : Set x t → (room : List ℕ) {ran : Ran} {left : Tables} {filled : List ℕ} {part : Part}
       → arrays.Runs y.sizes (ran_on y.sizes (front y.sizes t) y.collector bytes place x.reader.step room) ran left filled
       → part
       ≡ part_of (record { reader = behind ran.step; sizes = y.sizes; collector = ran.collector })
@@ -291,7 +277,7 @@ module _ {x : Progress} {t : Tables} (set : Set x t) (last : Bool) (bytes : List
       ran.events
       → Takes (whole_part x t last bytes) x room part left filled
   unfolding front
-  goes-taken room {ran} {left} {filled} runs answered =
+  goes-taken set room {ran} {left} {filled} runs answered =
       let from : arrays.Runs y.sizes (ran_on y.sizes (front y.sizes t) y.collector bytes place y.reader.step room) ran left filled =
       subst (λ (n : ℕ). arrays.Runs y.sizes (ran_on y.sizes (front y.sizes t) y.collector bytes place n room) ran left filled) (sym goes.step) runs in
       subst (λ (z : Part). Takes (whole_part x t last bytes) x room z left filled) (sym answered)
@@ -300,3 +286,35 @@ module _ {x : Progress} {t : Tables} (set : Set x t) (last : Bool) (bytes : List
     where
       not-ended : Events ≡ Ended → ⊥
       not-ended h = let z : ◌≡◌ {A = ℕ} 0 1 = cc in omega arith
+
+  pub goes_work : whole_work x t last bytes
+      ≡ record { pool = stands y.sizes (pool_of y.sizes (front y.sizes t) y.collector); events = (stretch bytes place x.reader.step).events }
+  unfolding rest_work
+  goes_work =
+      goes.work
+      ∙ (λ j.
+      record {
+        pool = stands y.sizes (pool_of y.sizes (front y.sizes t) y.collector);
+        events =
+            elim (goes.events j) [
+              | First ↦ (stretch bytes place (goes.step j)).events
+              | Events ↦ (stretch bytes place (goes.step j)).events
+              | Ended ↦ []
+            ];
+      })
+
+  pub goes-told : {X : Type 0} (tell : Telling X) (z : X)
+      → told_on tell y.sizes (front y.sizes t) y.collector bytes place x.reader.step z ≡ work_told tell (whole_work x t last bytes) z
+  unfolding work_told
+  goes-told tell z = ap (λ (w : Work). work_told tell w z) (sym goes_work)
+
+pub stays-told : {x : Progress} {t : Tables} {last : Bool} {bytes : List ℕ} {part : Part} → StaysSo x t last bytes part
+    → {X : Type 0} (tell : Telling X) (z : X) → z ≡ work_told tell (whole_work x t last bytes) z
+unfolding work_told told_by
+stays-told {x} {t} {last} {bytes} stays tell z =
+    by_pool (whole_work x t last bytes).pool
+    ∙ ap (λ (events : List Event). work_told tell (record { pool = (whole_work x t last bytes).pool; events = events }) z) (sym stays.idle)
+  where
+    by_pool : (left : Left) → z ≡ work_told tell (record { pool = left; events = [] }) z
+    by_pool untouched = refl
+    by_pool (stands s p) = refl

@@ -1,8 +1,7 @@
 -- The pool at the arrays' beginnings.
 --     Small, small              the sizes that the program takes
 --     links_few, registers_few, logs_few     how much room their tables take
---     Within, within            a pool of these sizes has room in the arrays
---     counted                   how long a beginning is
+--     within                    a pool of these sizes has room in the arrays
 --     back                      the arrays with other tables at their beginnings
 --     front_back, long_back     these lie there then, and the arrays keep their lengths
 --     ran_known, runs_back      the events of a stretch, done on the pool there
@@ -15,7 +14,7 @@ use native.Mathlib.Omega.{arith}
 use native.Mathlib.Nat.{mul-le-mul_left}
 use borrow.Author.Tests.{leb-true}
 use lib.Dec.{leb}
-use lib.ListN.{length, take, drop}
+use lib.ListN.{length, drop}
 use lib.Seq.{length-take-le, length_front, take_at}
 use Rattle.rules.specs.declared.Sizes.{Sizes}
 use Rattle.rules.specs.declared.Collector.{Collector}
@@ -32,7 +31,7 @@ use Rattle.tables.specs.Lie.{room, pool_of}
 use Rattle.tables.specs.Known.{Exact, Known}
 use Rattle.tables.proofs.RoundTrip.{sound_known}
 use Rattle.trace.specs.Stretch.{stretch, RanOn, ran_on}
-use Rattle.parts.specs.Arrays.{is_small, front, Long, Runs}
+use Rattle.parts.specs.Arrays.{is_small, front, Long, Within, Runs}
 
 -- ---- the sizes
 
@@ -74,20 +73,6 @@ module _ (s : Sizes) (h : is_small s ≡ true) where
   pub logs_few : s.w * room s ≤ 2112
   logs_few = omega (arith, mul-le-mul_left s.w (let few : room s ≤ 528 = omega (arith, links_few) in few), (small s h).w)
 
-pub record Within (s : Sizes) (t : Tables) : Type 0 where
-  pub used : word_count s.n ≤ length t.used
-  pub counts : s.n ≤ length t.counts
-  pub held : word_count s.n ≤ length t.held
-  pub candidates : word_count s.n ≤ length t.candidates
-  pub makers : s.n ≤ length t.makers
-  pub values : links s ≤ length t.values
-  pub changed : word_count (links s) ≤ length t.changed
-  pub registers : s.w * s.r + 1 ≤ length t.registers
-  pub snoops : s.w ≤ length t.snoops
-  pub logs : s.w * room s ≤ length t.logs
-  pub history : room s ≤ length t.history
-  pub lengths : s.w + 1 ≤ length t.lengths
-
 pub within : (s : Sizes) (t : Tables) → is_small s ≡ true → Long t → Within s t
 within s t h long =
     let few = small s h in
@@ -105,9 +90,6 @@ within s t h long =
       history = omega (arith, long.history, links_few s h);
       lengths = omega (arith, long.lengths, few.w);
     }
-
-pub counted : (n : ℕ) (l : List ℕ) → n ≤ length l → n ≡ length (take n l)
-counted n l h = sym (length-take-le n l h)
 
 -- ---- tables put back at the beginnings
 
@@ -152,9 +134,8 @@ module _ {s : Sizes} (t : Tables) {x : Tables} (exact : Exact s x) where
         lengths = take_at x.lengths (drop (s.w + 1) t.lengths) (s.w + 1) exact.lengths j;
       }
 
-  pub long_back : is_small s ≡ true → Long t → Long (back s t x)
-  long_back h long =
-      let fits = within s t h long in
+  pub long_back : Within s t → Long t → Long (back s t x)
+  long_back fits long =
       record {
         used = same_long t.used x.used fits.used exact.used long.used;
         counts = same_long t.counts x.counts fits.counts exact.counts long.counts;
@@ -182,13 +163,13 @@ ran_known {s} {t} {c} known bytes place step room run =
     let sound : Sound s q = run_keeps s (Sound s) (event_keeps_sound s known.sizes) (pool_of s t c) known.tables.sound events in
     subst (λ (y : RanOn). Known s y.tables y.ran.collector) run (sound_known s known.sizes q sound)
 
-module _ {s : Sizes} {t : Tables} {c : Collector} (h : is_small s ≡ true) (long : Long t) (known : Known s (front s t) c)
+module _ {s : Sizes} {t : Tables} {c : Collector} (fits : Within s t) (long : Long t) (known : Known s (front s t) c)
     (bytes : List ℕ) (place step : ℕ) (room : List ℕ) where
   pub runs_back : {x : RanOn} → ran_on s (front s t) c bytes place step room ≡ x
       → Runs s (ran_on s (front s t) c bytes place step room) x.ran (back s t x.tables) x.answers
   runs_back {x} run =
       let exact : Exact s x.tables = (ran_known known bytes place step room run).exact in
       record {
-        long = long_back t exact h long;
+        long = long_back t exact fits long;
         same = run ∙ (λ j. record { ran = x.ran; tables = sym (front_back t exact) j; answers = x.answers });
       }

@@ -11,6 +11,7 @@ use mathlib.Core.List.{List, [], ◌++◌}
 use native.Mathlib.Omega.{arith}
 use borrow.Author.Tests.{ltb-false}
 use lib.ListN.{length}
+use Rattle.std.specs.Prelude.{Some, None, Result}
 use Rattle.rules.specs.declared.Sizes.{Sizes}
 use Rattle.rules.specs.declared.Refusal.TheVariants.{WrongSize}
 use Rattle.rules.specs.Pool.{Pool, fresh}
@@ -18,9 +19,9 @@ use Rattle.rules.specs.Outcome.{answers, after, free_records}
 use Rattle.fields.specs.declared.Stage.TheVariants.{First, Events, Ended}
 use Rattle.fields.specs.declared.Reader.{Reader}
 use Rattle.fields.specs.declared.Read.{Read}
+use Rattle.fields.specs.declared.RefusedAt.{RefusedAt}
 use Rattle.fields.specs.Field.{read_at}
 use Rattle.fields.specs.Part.{longest}
-use Rattle.trace.specs.declared.Stand.TheVariants as stand
 use Rattle.trace.specs.declared.Stood.{Stood}
 use Rattle.trace.specs.Replay.{Left, untouched, stands, Replayed, stops, with_lines}
 use Rattle.trace.specs.Stretch.{behind, stretch, lines_behind}
@@ -35,7 +36,7 @@ use Rattle.parts.proofs.Between.{Between, before_sizes, behind_sizes, behind_end
 
 abbrev pub goes_from : Onward → Left → Stood → Replayed
 goes_from onward left x =
-    elim x.stand [ stand.Ended ending ↦ record { lines = []; ending = ending; left = left } | stand.Waits ↦ onward x.next x.reader left ]
+    elim x.stand [ Some ending ↦ record { lines = []; ending = ending; left = left } | None ↦ onward x.next x.reader left ]
 
 abbrev pub stands_on : Onward → Taken → Replayed
 stands_on onward x = with_lines x.lines (goes_from onward x.left x.stood)
@@ -62,7 +63,7 @@ module _ (takes : Sizes → Bool) (last : Bool) (part more : List ℕ) (whole : 
     unfolding stood
     ended-goes fields place step = by_wait (waits last part place) refl
       where
-        by_read : (x : Read) → Comes part place step Ended x
+        by_read : (x : Result Read RefusedAt) → Comes part place step Ended x
             → turn takes onward place (stands s q) x
             ≡ goes_from onward (stands s q) (look false (stood_on fields) (free_records q) q.collector.closed place (reader_at Ended step) x)
         by_read x (a_refusal why) = refl
@@ -78,12 +79,12 @@ module _ (takes : Sizes → Bool) (last : Bool) (part more : List ℕ) (whole : 
             ∙ ap (turn takes onward place (stands s q)) (read_in_front part more place (reader_at Ended step) (enough last part more whole place e))
             ∙ by_read (read_at part place (reader_at Ended step)) (read_comes part place step Ended)
 
-    events_go : (place step : ℕ) → is_event (read_at part place (behind step)).field ≡ false
+    events_go : (place step : ℕ) → is_event (read_at part place (behind step)) ≡ false
         → onward place (behind step) (stands s q) ≡ goes_from onward (stands s q) (stood_on 2 place (behind step))
     unfolding stood
     events_go place step none = by_wait (waits last part place) refl
       where
-        by_read : (x : Read) → Comes part place step Events x → is_event x.field ≡ false
+        by_read : (x : Result Read RefusedAt) → Comes part place step Events x → is_event x ≡ false
             → turn takes onward place (stands s q) x
             ≡ goes_from onward (stands s q) (look false (stood_on 1) (free_records q) q.collector.closed place (behind step) x)
         by_read x (a_refusal why) none = refl
@@ -125,7 +126,7 @@ module _ (takes : Sizes → Bool) (last : Bool) (part more : List ℕ) (whole : 
       by_takes true s next = rest_goes s (fresh s) next 0
       by_takes false s next = refl
 
-      by_read : (x : Read) → Comes part 0 step First x → turn takes onward 0 untouched x ≡ stands_on onward (first_of last part takes (reader_at First step) x)
+      by_read : (x : Result Read RefusedAt) → Comes part 0 step First x → turn takes onward 0 untouched x ≡ stands_on onward (first_of last part takes (reader_at First step) x)
       by_read x (a_refusal why) = refl
       by_read x (the_sizes s next range lies) = by_takes (takes s) s next
 

@@ -1,5 +1,6 @@
 -- How many events a part has: each has 7 bytes at least.
 --     lines_most     the lines of a part, by its bytes
+--     events_most    and its events
 -- Assumes nothing.
 use Prim.Native.Nat.{ℕ, ◌+◌, ◌*◌, ◌≤◌}
 use mathlib.Core.Path.{◌≡◌, refl, ap}
@@ -7,6 +8,7 @@ use mathlib.Core.Bool.{Bool}
 use mathlib.Core.List.{List, []}
 use native.Mathlib.Omega.{arith}
 use lib.ListN.{length}
+use Rattle.std.specs.Prelude.{Result, Ok, Err}
 use Rattle.rules.specs.declared.Sizes.{Sizes}
 use Rattle.rules.specs.Pool.{Pool, fresh}
 use Rattle.rules.specs.Outcome.{answers, after}
@@ -15,6 +17,8 @@ use Rattle.fields.specs.declared.Stage.TheVariants.{First, Events, Ended}
 use Rattle.fields.specs.declared.Reader.{Reader}
 use Rattle.fields.specs.declared.Field.{Field}
 use Rattle.fields.specs.declared.Field.TheVariants as field
+use Rattle.fields.specs.declared.Read.{Read}
+use Rattle.fields.specs.declared.RefusedAt.{RefusedAt}
 use Rattle.fields.specs.Field.{read_at}
 use Rattle.fields.specs.Part.{is_taken}
 use Rattle.fields.proofs.Tags.{either}
@@ -23,6 +27,11 @@ use Rattle.trace.specs.Replay.{Left, untouched, stands}
 use Rattle.trace.specs.Stretch.{Stretch, behind, stretch, lines_behind}
 use Rattle.trace.specs.Stand.{waits}
 use Rattle.trace.proofs.Sized.{length_lines}
+use Rattle.tables.specs.Tables.{Tables}
+use Rattle.parts.specs.declared.Progress.{Progress}
+use Rattle.parts.specs.declared.Part.{Part}
+use Rattle.parts.specs.Arrays.{is_small, left_in, Takes}
+use Rattle.parts.specs.Begun.{whole_part}
 use Rattle.parts.specs.Part.{Taken, stand_on, rest_taken, first_taken, part_taken}
 use Rattle.parts.proofs.Between.{stretched, first_of}
 
@@ -61,20 +70,26 @@ module _ (last : Bool) (bytes : List ℕ) where
   module _ (takes : Sizes → Bool) (reader : Reader) where
     first_most : Most 0 (first_taken takes last bytes reader)
     unfolding first_taken
-    first_most = either (Most 0) (waits last bytes 0) (omega arith) (by_field (read_at bytes 0 reader).field refl)
+    first_most = either (Most 0) (waits last bytes 0) (omega arith) (by_read (read_at bytes 0 reader) refl)
       where
-        by_field : (f : Field) → (read_at bytes 0 reader).field ≡ f
-            → Most 0 (first_of last bytes takes reader (record { field = f; next = (read_at bytes 0 reader).next; reader = (read_at bytes 0 reader).reader }))
-        by_field (field.Sizes s) e =
-            let x = read_at bytes 0 reader in
-            let inside = (taken_at_lem bytes 0 reader (ap is_taken e)).inside in
-            either (Most 0) (takes s) (omega (arith, rest_most s (fresh s) x.next x.reader inside)) (omega arith)
-        by_field (field.Event n e) h = omega arith
-        by_field field.End h = omega arith
-        by_field field.Nothing h = omega arith
-        by_field (field.Refused why at) h = omega arith
+        by_read : (r : Result Read RefusedAt) → read_at bytes 0 reader ≡ r → Most 0 (first_of last bytes takes reader r)
+        by_read (Err e) read = omega arith
+        by_read (Ok x) read = by_field x.field refl
+          where
+            by_field : (f : Field) → x.field ≡ f → Most 0 (first_of last bytes takes reader (Ok (record { field = f; next = x.next; reader = x.reader })))
+            by_field (field.Sizes s) e =
+                let inside = (taken_at_lem bytes 0 reader read (ap is_taken e)).inside in
+                either (Most 0) (takes s) (omega (arith, rest_most s (fresh s) x.next x.reader inside)) (omega arith)
+            by_field (field.Event n e) h = omega arith
+            by_field field.End h = omega arith
+            by_field field.Nothing h = omega arith
 
     pub lines_most : (left : Left) → length (part_taken takes last bytes reader left).lines * 7 ≤ length bytes
     unfolding part_taken
     lines_most untouched = omega (arith, first_most)
     lines_most (stands s p) = omega (arith, rest_most s p 0 reader (omega arith))
+
+-- and its events
+pub events_most : (x : Progress) (t : Tables) (last : Bool) (bytes : List ℕ) {part : Part} {after : Tables}
+    → Takes (whole_part x t last bytes) x [] part after [] → part.events * 7 ≤ length bytes
+events_most x t last bytes takes = omega (arith, takes.events, lines_most last bytes is_small x.reader (left_in x t))

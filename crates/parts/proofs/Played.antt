@@ -8,14 +8,13 @@ use mathlib.Core.List.{List, [], ◌∷◌, ◌++◌, append-nil, append_assoc, 
 use native.Mathlib.Omega.{arith}
 use lib.ListN.{length, drop, length-append}
 use lib.Seq.{drop-append-le}
+use Rattle.std.specs.Prelude.{Option, Some, None}
 use Rattle.rules.specs.declared.Sizes.{Sizes}
 use Rattle.rules.specs.declared.Refusal.TheVariants.{StopsShort}
 use Rattle.fields.specs.declared.Reader.{Reader}
-use Rattle.trace.specs.declared.Ending.TheVariants.{Stopped}
-use Rattle.trace.specs.declared.Stand.{Stand}
-use Rattle.trace.specs.declared.Stand.TheVariants as stand
+use Rattle.fields.specs.Field.{refused_at}
 use Rattle.trace.specs.declared.Stood.{Stood}
-use Rattle.trace.specs.Replay.{Left, untouched, Replayed, with_lines, at_start, replayed}
+use Rattle.trace.specs.Replay.{Left, Ending, untouched, Replayed, with_lines, at_start, replayed}
 use Rattle.trace.specs.Stand.{waits}
 use Rattle.trace.proofs.Along.{goes_on}
 use Rattle.parts.specs.Part.{Taken, part_taken, moved_ending, over, played}
@@ -30,7 +29,7 @@ last_waits w = let h = w.waits in let z : ◌≡◌ {A = ℕ} 0 1 = cc in omega 
 
 module _ (takes : Sizes → Bool) where
   -- the replay from where a part stands so
-  abbrev goes_on_so : List ℕ → Taken → Stand → Replayed
+  abbrev goes_on_so : List ℕ → Taken → Option Ending → Replayed
   goes_on_so bytes x st = with_lines x.lines (goes_from (goes_on takes bytes) x.left (record { stand = st; next = x.stood.next; reader = x.stood.reader }))
 
   -- the replay of what is left of a part and of what comes behind it
@@ -58,11 +57,11 @@ module _ (takes : Sizes → Bool) where
       x : Taken
       x = part_taken takes true rest reader left
 
-      by_stand : (st : Stand) → x.stood.stand ≡ st
-          → elim st [ stand.Ended ending ↦ over base x ending | stand.Waits ↦ over base x (Stopped StopsShort x.stood.next) ]
+      by_stand : (st : Option Ending) → x.stood.stand ≡ st
+          → elim st [ Some ending ↦ over base x ending | None ↦ over base x (refused_at StopsShort x.stood.next) ]
           ≡ moved_replay base (goes_on_so (rest ++ []) x st)
-      by_stand (stand.Ended ending) e = λ k. record { lines = sym (append-nil x.lines) k; ending = moved_ending base ending; left = x.left }
-      by_stand stand.Waits e = absurd (last_waits (part_waits true rest takes reader left between e))
+      by_stand (Some ending) e = λ k. record { lines = sym (append-nil x.lines) k; ending = moved_ending base ending; left = x.left }
+      by_stand None e = absurd (last_waits (part_waits true rest takes reader left between e))
 
   plays_more : (piece : List ℕ) (pieces : List (List ℕ)) → Plays pieces → Plays (piece ∷ pieces)
   unfolding played flatten
@@ -79,14 +78,14 @@ module _ (takes : Sizes → Bool) where
       x : Taken
       x = part_taken takes false part reader left
 
-      by_stand : (st : Stand) → x.stood.stand ≡ st
+      by_stand : (st : Option Ending) → x.stood.stand ≡ st
           → elim st [
-            | stand.Ended ending ↦ over base x ending
-            | stand.Waits ↦ with_lines x.lines (played takes pieces (base + x.stood.next) (drop x.stood.next part) x.stood.reader x.left)
+            | Some ending ↦ over base x ending
+            | None ↦ with_lines x.lines (played takes pieces (base + x.stood.next) (drop x.stood.next part) x.stood.reader x.left)
           ]
           ≡ moved_replay base (goes_on_so (part ++ flatten pieces) x st)
-      by_stand (stand.Ended ending) e = λ k. record { lines = sym (append-nil x.lines) k; ending = moved_ending base ending; left = x.left }
-      by_stand stand.Waits e =
+      by_stand (Some ending) e = λ k. record { lines = sym (append-nil x.lines) k; ending = moved_ending base ending; left = x.left }
+      by_stand None e =
           let w = part_waits false part takes reader left between e in
           ap (with_lines x.lines)
           (further (base + x.stood.next) (drop x.stood.next part) x.stood.reader x.left w.between

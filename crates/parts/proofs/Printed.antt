@@ -7,14 +7,13 @@ use mathlib.Core.Path.{◌≡◌, refl, sym, ap, ◌∙◌}
 use mathlib.Core.Bool.{Bool, true, false}
 use mathlib.Core.List.{List, [], ◌∷◌, ◌++◌, append_assoc, flatten}
 use lib.ListN.{drop}
+use Rattle.std.specs.Prelude.{Option, Some, None}
 use Rattle.rules.specs.declared.Sizes.{Sizes}
 use Rattle.rules.specs.declared.Refusal.TheVariants.{StopsShort}
 use Rattle.fields.specs.declared.Reader.{Reader}
+use Rattle.fields.specs.Field.{refused_at}
 use Rattle.text.specs.Text.{line_text}
-use Rattle.trace.specs.declared.Ending.TheVariants.{Stopped}
-use Rattle.trace.specs.declared.Stand.{Stand}
-use Rattle.trace.specs.declared.Stand.TheVariants as stand
-use Rattle.trace.specs.Replay.{Line, Left, untouched, Replayed, with_lines, at_start, replayed}
+use Rattle.trace.specs.Replay.{Line, Left, Ending, untouched, Replayed, with_lines, at_start, replayed}
 use Rattle.parts.specs.Part.{Taken, part_taken, moved_ending, over, played}
 use Rattle.parts.specs.Printed.{lines_printed, ending_printed, replay_printed, printed}
 use Rattle.parts.proofs.Played.{played_is_replayed}
@@ -41,12 +40,12 @@ module _ (takes : Sizes → Bool) where
       x : Taken
       x = part_taken takes true rest reader left
 
-      by_stand : (st : Stand)
+      by_stand : (st : Option Ending)
           → lines_printed x.lines
-          ++ elim st [ stand.Ended ending ↦ ending_printed (moved_ending base ending) | stand.Waits ↦ ending_printed (Stopped StopsShort (base + x.stood.next)) ]
-          ≡ replay_printed (elim st [ stand.Ended ending ↦ over base x ending | stand.Waits ↦ over base x (Stopped StopsShort x.stood.next) ])
-      by_stand (stand.Ended ending) = refl
-      by_stand stand.Waits = refl
+          ++ elim st [ Some ending ↦ ending_printed (moved_ending base ending) | None ↦ ending_printed (refused_at StopsShort (base + x.stood.next)) ]
+          ≡ replay_printed (elim st [ Some ending ↦ over base x ending | None ↦ over base x (refused_at StopsShort x.stood.next) ])
+      by_stand (Some ending) = refl
+      by_stand None = refl
   prints (piece ∷ pieces) base rest reader left =
       by_stand x.stood.stand (prints pieces (base + x.stood.next) (drop x.stood.next part) x.stood.reader x.left)
     where
@@ -62,11 +61,11 @@ module _ (takes : Sizes → Bool) where
       later : Replayed
       later = played takes pieces (base + x.stood.next) (drop x.stood.next part) x.stood.reader x.left
 
-      by_stand : (st : Stand) → text_later ≡ replay_printed later
-          → lines_printed x.lines ++ elim st [ stand.Ended ending ↦ ending_printed (moved_ending base ending) | stand.Waits ↦ text_later ]
-          ≡ replay_printed (elim st [ stand.Ended ending ↦ over base x ending | stand.Waits ↦ with_lines x.lines later ])
-      by_stand (stand.Ended ending) same = refl
-      by_stand stand.Waits same = ap (λ (text : List ℕ). lines_printed x.lines ++ text) same ∙ before_printed x.lines later
+      by_stand : (st : Option Ending) → text_later ≡ replay_printed later
+          → lines_printed x.lines ++ elim st [ Some ending ↦ ending_printed (moved_ending base ending) | None ↦ text_later ]
+          ≡ replay_printed (elim st [ Some ending ↦ over base x ending | None ↦ with_lines x.lines later ])
+      by_stand (Some ending) same = refl
+      by_stand None same = ap (λ (text : List ℕ). lines_printed x.lines ++ text) same ∙ before_printed x.lines later
 
   pub printed_is_replay : (pieces : List (List ℕ)) → printed takes pieces 0 [] at_start untouched ≡ replay_printed (replayed takes (flatten pieces))
   printed_is_replay pieces = prints pieces 0 [] at_start untouched ∙ ap replay_printed (played_is_replayed takes pieces)

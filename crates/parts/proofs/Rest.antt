@@ -13,6 +13,7 @@ use mathlib.Core.List.{List, []}
 use native.Mathlib.Omega.{arith}
 use native.Mathlib.Nat.{add-zero}
 use lib.ListN.{length}
+use Rattle.std.specs.Prelude.{Result}
 use Rattle.rules.specs.declared.Sizes.{Sizes}
 use Rattle.rules.specs.declared.Collector.{Collector}
 use Rattle.rules.specs.Pool.{Pool}
@@ -28,6 +29,7 @@ use Rattle.fields.specs.declared.Stage.{Stage}
 use Rattle.fields.specs.declared.Stage.TheVariants.{First, Events, Ended}
 use Rattle.fields.specs.declared.Reader.{Reader}
 use Rattle.fields.specs.declared.Read.{Read}
+use Rattle.fields.specs.declared.RefusedAt.{RefusedAt}
 use Rattle.fields.specs.Field.{read_at}
 use Rattle.trace.specs.declared.Stood.{Stood}
 use Rattle.trace.specs.declared.Ran.{Ran}
@@ -57,7 +59,7 @@ module _ (last : Bool) (free closed : ℕ) (bytes : List ℕ) where
   stood_stays (suc fields) place step stage later =
       by_read (read_at bytes place (reader_at stage step)) (read_comes bytes place step stage) (waits last bytes place) later (λ next stage. stood_stays fields next step stage)
     where
-      by_read : {stage : Stage} (x : Read) → Comes bytes place step stage x → (wait : Bool) → Later stage
+      by_read : {stage : Stage} (x : Result Read RefusedAt) → Comes bytes place step stage x → (wait : Bool) → Later stage
           → ((next : ℕ) (stage : Stage) → Later stage → Stays step (stood fields last free closed bytes next (reader_at stage step)))
           → Stays step
           (look wait (stood fields last free closed bytes) free closed place (reader_at stage step) x)

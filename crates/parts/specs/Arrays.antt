@@ -2,26 +2,28 @@
 --     is_small         the sizes that the program takes
 --     front           the tables at the arrays' beginnings
 --     left_in          what lies in the arrays
---     Long            the arrays' lengths
+--     Long, Within    the arrays' lengths; a pool has room in them
+--     laid            what the arrays contain, as tables
 --     aside           the arrays before the first field
 --     Runs            the events of a stretch, done on them
 --     Holds, Later, Set     the arrays between two parts: before the first field all 0, then a sound pool
 --     part_of, Numbered, Takes     what a part answers and leaves, on the arrays
 -- Assumes nothing.
-use Rattle.std.specs.Prelude.{ℕ, ◌+◌, ◌*◌, ◌≡◌, Bool, true, ◌&&◌, List, leb, length, take, replicate}
+use Rattle.std.specs.Prelude.{ℕ, ◌+◌, ◌*◌, ◌≤◌, ◌≡◌, Bool, true, ◌&&◌, List, leb, length, take, replicate}
 use Rattle.rules.specs.declared.Sizes.{Sizes}
 use Rattle.rules.specs.declared.Answer.{Answer}
 use Rattle.rules.specs.Size.{links}
 use Rattle.fields.specs.declared.Stage.{Stage}
 use Rattle.fields.specs.declared.Stage.TheVariants.{First, Events, Ended}
 use Rattle.tables.specs.Bits.{word_count}
-use Rattle.tables.specs.Tables.{Tables}
+use Rattle.tables.specs.Tables.{Tables, lent}
 use Rattle.tables.specs.Lie.{room, pool_of}
 use Rattle.tables.specs.Known.{Known}
 use Rattle.trace.specs.Replay.{Line, Left, untouched, stands}
 use Rattle.trace.specs.declared.Ran.{Ran}
 use Rattle.trace.specs.declared.Stood.{Stood}
 use Rattle.trace.specs.Stretch.{lines_behind, put, RanOn}
+use Rattle.parts.specs.declared.Arrays.{Arrays}
 use Rattle.parts.specs.declared.Progress.{Progress}
 use Rattle.parts.specs.declared.Part.{Part}
 use Rattle.parts.specs.Part.{Taken}
@@ -67,6 +69,25 @@ pub record Long (t : Tables) : Type 0 where
   pub logs : length t.logs ≡ 2112
   pub history : length t.history ≡ 528
   pub lengths : length t.lengths ≡ 5
+
+-- a pool of these sizes has room in them
+pub record Within (s : Sizes) (t : Tables) : Type 0 where
+  pub used : word_count s.n ≤ length t.used
+  pub counts : s.n ≤ length t.counts
+  pub held : word_count s.n ≤ length t.held
+  pub candidates : word_count s.n ≤ length t.candidates
+  pub makers : s.n ≤ length t.makers
+  pub values : links s ≤ length t.values
+  pub changed : word_count (links s) ≤ length t.changed
+  pub registers : s.w * s.r + 1 ≤ length t.registers
+  pub snoops : s.w ≤ length t.snoops
+  pub logs : s.w * room s ≤ length t.logs
+  pub history : room s ≤ length t.history
+  pub lengths : s.w + 1 ≤ length t.lengths
+
+-- what the arrays contain, each as the table of its name
+abbrev pub laid : Arrays → Tables
+laid a = lent a.used a.counts a.held a.candidates a.makers a.values a.changed a.registers a.snoops a.logs a.history a.lengths
 
 -- "sets aside 256 links, all none, before the first field", and with these 8 board entries (document 02, request 5)
 unfoldable pub aside : Tables

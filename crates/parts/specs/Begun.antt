@@ -6,13 +6,13 @@
 --     whole_part, whole_work     what the part is to answer and leave, and its events
 -- Assumes nothing.
 use Rattle.std.specs.Prelude.{ℕ, ◌≡◌, Bool, List, []}
+use Rattle.std.specs.declared.ops.ControlFlow.{ControlFlow}
+use Rattle.std.specs.declared.ops.ControlFlow.TheVariants.{Continue, Break}
 use Rattle.fields.specs.declared.Stage.TheVariants.{Events}
 use Rattle.tables.specs.Tables.{Tables}
 use Rattle.tables.specs.Lie.{pool_of}
 use Rattle.parts.specs.declared.Progress.{Progress}
 use Rattle.parts.specs.declared.Part.{Part}
-use Rattle.parts.specs.declared.Begun.{Begun}
-use Rattle.parts.specs.declared.Begun.TheVariants.{Goes, Stays}
 use Rattle.parts.specs.Part.{Taken, rest_taken, part_taken}
 use Rattle.parts.specs.Work.{Work, rest_work, part_work}
 use Rattle.parts.specs.Arrays.{is_small, front, left_in, Holds, Set, Takes}
@@ -40,6 +40,7 @@ pub record StaysSo (x : Progress) (t : Tables) (last : Bool) (bytes : List ℕ) 
   pub idle : (whole_work x t last bytes).events ≡ []
   pub takes : (room : List ℕ) → Takes (whole_part x t last bytes) x room part t room
 
-abbrev pub BegunAs : Progress → Tables → Bool → List ℕ → Begun → Type 0
-BegunAs x t last bytes (Goes y place) = GoesOn x t last bytes y place
-BegunAs x t last bytes (Stays part) = StaysSo x t last bytes part
+-- with the events from a place on, and what is kept of the pool that they are done on; or with what the part answers
+abbrev pub BegunAs : Progress → Tables → Bool → List ℕ → ControlFlow Part (Progress × ℕ) → Type 0
+BegunAs x t last bytes (Continue from) = GoesOn x t last bytes from.0 from.1
+BegunAs x t last bytes (Break part) = StaysSo x t last bytes part

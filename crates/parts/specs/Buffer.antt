@@ -3,11 +3,10 @@
 --     TextOf        a part is taken, and its lines stand in the buffer
 --     PlaceFits     the offset of a refusal has 64 bits
 -- Assumes nothing.
-use Rattle.std.specs.Prelude.{ℕ, ◌+◌, ◌*◌, ◌≤◌, ◌≡◌, List, length}
+use Rattle.std.specs.Prelude.{ℕ, ◌+◌, ◌*◌, ◌≤◌, ◌≡◌, List, length, Ok, Err}
 use Rattle.tables.specs.Tables.{Tables}
 use Rattle.text.specs.Text.{StartsWith}
-use Rattle.trace.specs.declared.Ending.{Ending}
-use Rattle.trace.specs.declared.Ending.TheVariants.{Whole, Stopped}
+use Rattle.trace.specs.Replay.{Ending}
 use Rattle.parts.specs.declared.Part.{Part}
 use Rattle.parts.specs.Part.{Taken}
 use Rattle.parts.specs.Arrays.{left_in, Set}
@@ -26,5 +25,5 @@ pub record TextOf (taken : Taken) (part : Part) (size : ℕ) (after : Tables) (t
   pub lines : StartsWith text size (lines_printed taken.lines)
 
 abbrev pub PlaceFits : ℕ → Ending → Type 0
-PlaceFits base (Whole free closed) = Unit
-PlaceFits base (Stopped why place) = base + place ≤ 18446744073709551615
+PlaceFits base (Ok w) = Unit
+PlaceFits base (Err e) = base + e.place ≤ 18446744073709551615

@@ -4,7 +4,7 @@
 --     moved_ending          an ending, in a trace of which the part is not the beginning
 --     played                parts one after another, however the bytes arrive
 -- Assumes nothing.
-use Rattle.std.specs.Prelude.{ℕ, ◌+◌, Bool, true, false, cond, List, [], ◌∷◌, ◌++◌, drop}
+use Rattle.std.specs.Prelude.{ℕ, ◌+◌, Bool, true, false, cond, List, [], ◌∷◌, ◌++◌, drop, Some, None, Ok, Err}
 use Rattle.rules.specs.declared.Sizes.{Sizes}
 use Rattle.rules.specs.declared.Refusal.{Refusal}
 use Rattle.rules.specs.declared.Refusal.TheVariants.{WrongSize, WrongTag, StopsShort}
@@ -13,13 +13,9 @@ use Rattle.rules.specs.Outcome.{answers, after, free_records}
 use Rattle.fields.specs.declared.Stage.TheVariants.{First, Events, Ended}
 use Rattle.fields.specs.declared.Reader.{Reader}
 use Rattle.fields.specs.declared.Field.TheVariants as field
-use Rattle.fields.specs.declared.Read.{Read}
-use Rattle.fields.specs.Field.{read_at}
-use Rattle.trace.specs.declared.Ending.{Ending}
-use Rattle.trace.specs.declared.Ending.TheVariants.{Whole, Stopped}
-use Rattle.trace.specs.declared.Stand.TheVariants as stand
+use Rattle.fields.specs.Field.{refused_at, read_at}
 use Rattle.trace.specs.declared.Stood.{Stood}
-use Rattle.trace.specs.Replay.{Line, Left, untouched, stands, Replayed, with_lines}
+use Rattle.trace.specs.Replay.{Line, Left, Ending, untouched, stands, Replayed, with_lines}
 use Rattle.trace.specs.Stretch.{Stretch, behind, stretch, lines_behind}
 use Rattle.trace.specs.Stand.{waits, ended, stand_behind}
 
@@ -52,20 +48,21 @@ rest_taken last bytes place reader s p =
 
 -- a part that stops at the first field, before there is a pool
 abbrev pub stops_at : Refusal → ℕ → Reader → Taken
-stops_at why place reader = record { lines = []; stood = ended (Stopped why place) 0 reader; left = untouched }
+stops_at why place reader = record { lines = []; stood = ended (refused_at why place) 0 reader; left = untouched }
 
 -- the first field
 unfoldable pub first_taken : (Sizes → Bool) → Bool → List ℕ → Reader → Taken
 first_taken takes last bytes reader =
-    let x : Read = read_at bytes 0 reader in
     cond (waits last bytes 0)
-    (record { lines = []; stood = record { stand = stand.Waits; next = 0; reader = reader }; left = untouched })
-    (elim x.field [
-      | field.Sizes s ↦ cond (takes s) (rest_taken last bytes x.next x.reader s (fresh s)) (stops_at WrongSize 0 reader)
-      | field.Event n e ↦ stops_at WrongTag 0 reader
-      | field.End ↦ stops_at WrongTag 0 reader
-      | field.Nothing ↦ stops_at WrongTag 0 reader
-      | field.Refused why at ↦ stops_at why at reader
+    (record { lines = []; stood = record { stand = None; next = 0; reader = reader }; left = untouched })
+    (elim (read_at bytes 0 reader) [
+      | Err e ↦ stops_at e.why e.place reader
+      | Ok x ↦ elim x.field [
+        | field.Sizes s ↦ cond (takes s) (rest_taken last bytes x.next x.reader s (fresh s)) (stops_at WrongSize 0 reader)
+        | field.Event n e ↦ stops_at WrongTag 0 reader
+        | field.End ↦ stops_at WrongTag 0 reader
+        | field.Nothing ↦ stops_at WrongTag 0 reader
+      ]
     ])
 
 unfoldable pub part_taken : (Sizes → Bool) → Bool → List ℕ → Reader → Left → Taken
@@ -76,8 +73,8 @@ part_taken takes last bytes reader (stands s p) = rest_taken last bytes 0 reader
 
 -- the part begins so many bytes behind the trace's beginning
 unfoldable pub moved_ending : ℕ → Ending → Ending
-moved_ending base (Whole free closed) = Whole free closed
-moved_ending base (Stopped why place) = Stopped why (base + place)
+moved_ending base (Ok w) = Ok w
+moved_ending base (Err e) = refused_at e.why (base + e.place)
 
 abbrev pub over : ℕ → Taken → Ending → Replayed
 over base x ending = record { lines = x.lines; ending = moved_ending base ending; left = x.left }
@@ -86,11 +83,11 @@ over base x ending = record { lines = x.lines; ending = moved_ending base ending
 unfoldable pub played : (Sizes → Bool) → List (List ℕ) → ℕ → List ℕ → Reader → Left → Replayed
 played takes [] base rest reader left =
     let x : Taken = part_taken takes true rest reader left in
-    elim x.stood.stand [ stand.Ended ending ↦ over base x ending | stand.Waits ↦ over base x (Stopped StopsShort x.stood.next) ]
+    elim x.stood.stand [ Some ending ↦ over base x ending | None ↦ over base x (refused_at StopsShort x.stood.next) ]
 played takes (piece ∷ pieces) base rest reader left =
     let part : List ℕ = rest ++ piece in
     let x : Taken = part_taken takes false part reader left in
     elim x.stood.stand [
-      | stand.Ended ending ↦ over base x ending
-      | stand.Waits ↦ with_lines x.lines (played takes pieces (base + x.stood.next) (drop x.stood.next part) x.stood.reader x.left)
+      | Some ending ↦ over base x ending
+      | None ↦ with_lines x.lines (played takes pieces (base + x.stood.next) (drop x.stood.next part) x.stood.reader x.left)
     ]

@@ -2,16 +2,14 @@
 --     lines_printed, ending_printed, replay_printed     the text of a replay
 --     printed                                           what is printed for the parts, one after another
 -- Assumes nothing.
-use Rattle.std.specs.Prelude.{ℕ, ◌+◌, Bool, true, false, List, [], ◌∷◌, ◌++◌, drop}
+use Rattle.std.specs.Prelude.{ℕ, ◌+◌, Bool, true, false, List, [], ◌∷◌, ◌++◌, drop, Some, None, Ok, Err}
 use Rattle.rules.specs.declared.Sizes.{Sizes}
 use Rattle.rules.specs.declared.Refusal.TheVariants.{StopsShort}
 use Rattle.rules.specs.Reply.{refusal_number}
 use Rattle.fields.specs.declared.Reader.{Reader}
+use Rattle.fields.specs.Field.{refused_at}
 use Rattle.text.specs.Text.{line_text, end_text, refused_text}
-use Rattle.trace.specs.declared.Ending.{Ending}
-use Rattle.trace.specs.declared.Ending.TheVariants.{Whole, Stopped}
-use Rattle.trace.specs.declared.Stand.TheVariants as stand
-use Rattle.trace.specs.Replay.{Line, Left, Replayed}
+use Rattle.trace.specs.Replay.{Line, Left, Ending, Replayed}
 use Rattle.parts.specs.Part.{Taken, part_taken, moved_ending}
 
 -- "It prints one line for each event: step, answer number, value."
@@ -21,8 +19,8 @@ lines_printed (line ∷ lines) = line_text line.step line.number line.value ++ l
 
 -- "After a whole trace it prints `end`, how many records are free, the closed-cycle number; after a refusal `refused`, the number, the offset"
 unfoldable pub ending_printed : Ending → List ℕ
-ending_printed (Whole free closed) = end_text free closed
-ending_printed (Stopped why place) = refused_text (refusal_number why) place
+ending_printed (Ok w) = end_text w.free w.closed
+ending_printed (Err e) = refused_text (refusal_number e.why) e.place
 
 unfoldable pub replay_printed : Replayed → List ℕ
 replay_printed x = lines_printed x.lines ++ ending_printed x.ending
@@ -32,12 +30,12 @@ unfoldable pub printed : (Sizes → Bool) → List (List ℕ) → ℕ → List �
 printed takes [] base rest reader left =
     let x : Taken = part_taken takes true rest reader left in
     lines_printed x.lines
-    ++ elim x.stood.stand [ stand.Ended ending ↦ ending_printed (moved_ending base ending) | stand.Waits ↦ ending_printed (Stopped StopsShort (base + x.stood.next)) ]
+    ++ elim x.stood.stand [ Some ending ↦ ending_printed (moved_ending base ending) | None ↦ ending_printed (refused_at StopsShort (base + x.stood.next)) ]
 printed takes (piece ∷ pieces) base rest reader left =
     let part : List ℕ = rest ++ piece in
     let x : Taken = part_taken takes false part reader left in
     lines_printed x.lines
     ++ elim x.stood.stand [
-      | stand.Ended ending ↦ ending_printed (moved_ending base ending)
-      | stand.Waits ↦ printed takes pieces (base + x.stood.next) (drop x.stood.next part) x.stood.reader x.left
+      | Some ending ↦ ending_printed (moved_ending base ending)
+      | None ↦ printed takes pieces (base + x.stood.next) (drop x.stood.next part) x.stood.reader x.left
     ]

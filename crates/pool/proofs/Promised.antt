@@ -40,7 +40,7 @@ use Rattle.fresh.specs.Fits.{fits, refused_on}
 use Rattle.fresh.specs.Fresh.{made_fresh}
 use Rattle.pool.specs.Calls.{called}
 use Rattle.pool.specs.Run.{left, call_answers, after_calls}
-use Rattle.pool.proofs.Checked.{wrong_shape}
+use Rattle.pool.proofs.Checked.{checked_unfit, refused_called}
 use Rattle.pool.proofs.Given.{OfAnEvent, never_one_or_two as fair}
 use Rattle.pool.proofs.Called.{laid_out, called_sound, run_lies, run_answers}
 
@@ -143,5 +143,5 @@ pub wrong_shape_refused : (s : Sizes) (t : Tables) (c : Collector) → fits s t 
 unfolding made_fresh
 wrong_shape_refused s t c unfit = (
   ap (λ (b : Bool). cond b (written s (record { answer = Fresh; pool = fresh s })) (refused_on WrongSize t c)) unfit,
-  λ e. wrong_shape s t c e unfit,
+  λ e. refused_called s t c e (sym (checked_unfit s t c unfit)),
 )

@@ -29,7 +29,6 @@ use Rattle.tables.specs.Event.{Called, written, event_on}
 use Rattle.tables.proofs.Marks.{marks-bits, bits-low}
 use Rattle.clauses.specs.IsSound.{every, is_mark, is_packed, is_marked, is_padded, is_sound_pool, is_sound}
 use Rattle.clauses.proofs.IsSound.{marks_tell, packed_tells}
-use Rattle.clauses.proofs.Exactly.{is_sound_exactly}
 use Rattle.fresh.specs.Fits.{is_exact, fits, refused_on}
 use Rattle.fresh.specs.Fresh.{made_fresh}
 use Rattle.fresh.specs.Free.{free_in}
@@ -38,7 +37,7 @@ use Rattle.events.specs.Old.{old_exact, old_written, stands_for, old_form, Packe
 use Rattle.events.proofs.StandsFor.{same_length, same_pool, same_tables, event_same, event_packed}
 use Rattle.pool.specs.Calls.{called}
 use Rattle.pool.specs.Old.{old_fits, old_sound, old_fresh, old_called}
-use Rattle.pool.proofs.Checked.{fits_tells}
+use Rattle.pool.proofs.Checked.{tests_known}
 
 -- ---- one kind of mark
 
@@ -92,12 +91,6 @@ module _ {s : Sizes} {t : Tables} (packed : PackedWords s t) (c : Collector) whe
       by_fit true = λ j. record { answer = Fresh; collector = (fresh s).collector; tables = sym (same_tables s (fresh s) (fresh_is_sound s)) j }
       by_fit false = refl
 
-  -- where both tests are passed a sound pool lies in the tables
-  known : fits s t ≡ true → is_sound s t c ≡ true → Known s t c
-  known fit sound =
-      let fitting = fits_tells s t fit in
-      record { sizes = fitting.0; exact = fitting.1; tables = (is_sound_exactly s t c fitting.1).0 sound }
-
   -- any call that asks them: what is done, or refused with 2 or with 1, on the old tables and, in the old form, on the packed ones
   pub by_tests : {A B : Type 0} (form : A → B) {did2 no2 off2 : B} {did no off : A} → (Known s t c → did2 ≡ form did) → no2 ≡ form no → off2 ≡ form off
       → cond (old_fits s (stands_for s t)) (cond (old_sound s (stands_for s t) c) did2 no2) off2 ≡ form (cond (fits s t) (cond (is_sound s t c) did no) off)
@@ -107,7 +100,7 @@ module _ {s : Sizes} {t : Tables} (packed : PackedWords s t) (c : Collector) whe
       by_fit : (fit : Bool) → fits s t ≡ fit → (sound : Bool) → is_sound s t c ≡ sound → cond fit (cond sound did2 no2) off2 ≡ form (cond fit (cond sound did no) off)
       by_fit false f sound h = unfit
       by_fit true f false h = unsound
-      by_fit true f true h = done (known f h)
+      by_fit true f true h = done (tests_known s t c f h)
 
   -- equal answers, and tables that stand for equal tables, after any event
   pub called_same : (e : Event) → old_called s (stands_for s t) c e ≡ old_form s (called s t c e)
@@ -123,4 +116,4 @@ module _ {s : Sizes} {t : Tables} (packed : PackedWords s t) (c : Collector) whe
           → PackedWords s (cond fit (cond sound (event_on s t c e) (refused_on NotSound t c)) (refused_on WrongSize t c)).tables
       by_fit false f sound h = packed
       by_fit true f false h = packed
-      by_fit true f true h = event_packed (known f h) e
+      by_fit true f true h = event_packed (tests_known s t c f h) e

@@ -7,7 +7,7 @@
 --     record_fails, record_passes, record_sits     so it does not; and where it does
 -- Assumes nothing.
 use Prim.Native.Nat.{ℕ, ◌+◌, ◌-◌, ◌≤◌, ◌<◌}
-use mathlib.Core.Path.{◌≡◌, refl, sym, ◌∙◌}
+use mathlib.Core.Path.{◌≡◌, refl, sym, ap, ◌∙◌}
 use mathlib.Core.Logic.{◌⊎◌, inl, inr, ⊎_elim}
 use mathlib.Core.Bool.{Bool, true, false, not, ◌&&◌, true≢false}
 use mathlib.Core.List.{List}
@@ -15,6 +15,7 @@ use native.Mathlib.Omega.{arith}
 use native.Mathlib.Nat.{eq-or-lt_of_le}
 use lib.Dec.{eqb}
 use lib.ListN.{get_or}
+use Rattle.std.proofs.Common.{Some, None}
 use Rattle.rules.specs.declared.Sizes.{Sizes}
 use Rattle.rules.specs.declared.RecordNumber.{RecordNumber}
 use Rattle.rules.specs.declared.Collector.{Collector}
@@ -24,6 +25,8 @@ use Rattle.rules.specs.Collect.{unchanged, holds_unchanged, has_child, passes, r
 use Rattle.tables.specs.Tables.{Tables, put_values, put_changed}
 use Rattle.tables.specs.Bits.{mark_at}
 use Rattle.tables.specs.Lie.{is_on, pool_of}
+use Rattle.tables.specs.There.{record_there}
+use Rattle.tables.proofs.There.{there_some}
 use Rattle.tables.proofs.Stand.{count_stands, used_stands, held_stands, candidate_stands, value-stands, changed_stands}
 use Rattle.laws.proofs.Tests.{below_or_not}
 use Rattle.laws.proofs.Number.{record_same, link_inside}
@@ -37,10 +40,12 @@ not-both on off = true≢false (sym on ∙ off)
 
 module _ (s : Sizes) (p : Pool) where
   pub search_finds : (a : RecordNumber) → 1 ≤ a.0 → a.0 ≤ s.n → passes s p a ≡ true → ((b : RecordNumber) → 1 ≤ b.0 → b.0 < a.0 → passes s p b ≡ false)
-      → a ≡ reclaimed s p
+      → Some a ≡ record_there (reclaimed s p)
   search_finds a some low pass below =
       let r : RecordNumber = reclaimed s p in
-      record_same a r
+      there_some a some
+      ∙ ap record_there
+      (record_same a r
       (⊎_elim
       (λ nothing. absurd (not-both pass (reclaimed-none s p nothing a some low)))
       (λ x.
@@ -48,12 +53,12 @@ module _ (s : Sizes) (p : Pool) where
       (λ (above : a.0 < r.0). absurd (not-both pass (reclaimed-lowest s p a some above)))
       (λ (here : r.0 ≤ a.0). ⊎_elim (λ e. sym e) (λ (lt : r.0 < a.0). absurd (not-both x.0 (below r x.1 lt))) (eq-or-lt_of_le here))
       (below_or_not a.0 r.0))
-      (reclaimed-passes s p))
+      (reclaimed-passes s p)))
 
-  pub search_finds_none : ((b : RecordNumber) → 1 ≤ b.0 → b.0 ≤ s.n → passes s p b ≡ false) → none ≡ reclaimed s p
+  pub search_finds_none : ((b : RecordNumber) → 1 ≤ b.0 → b.0 ≤ s.n → passes s p b ≡ false) → None ≡ record_there (reclaimed s p)
   search_finds_none all =
       let r : RecordNumber = reclaimed s p in
-      record_same none r (⊎_elim (λ nothing. sym nothing) (λ x. absurd (not-both x.0 (all r x.1 x.2))) (reclaimed-passes s p))
+      ap record_there (record_same none r (⊎_elim (λ nothing. sym nothing) (λ x. absurd (not-both x.0 (all r x.1 x.2))) (reclaimed-passes s p)))
 
 -- ---- one record
 

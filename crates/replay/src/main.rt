@@ -1,139 +1,81 @@
 // `replay`: reads a trace from standard input to its end and prints document 01's lines, in constant memory.
-//     main          the arrays, and a turn for each read
-//     read_more     a read, behind what is left
-//     print         a text on standard output
-//     say_unended   the turns have run out
-// What is printed for the bytes that were read is `printed` of parts/specs/Printed.antt, a turn for each piece: what `part_text` puts into the buffer, and behind the
-// last part what `put_ending` does. docs/DECISIONS.md says how far a theorem reaches here.
+//     main       the arrays, and the parts of the trace, one for each read
+//     Replay     the pool's tables, room for the answers of a part, and what is kept between two parts
+// What is printed for the bytes that were read is `printed` of parts/specs/Printed.antt, a part for each piece: what `part_text` puts into the buffer, and behind the
+// last part what `put_ending` does, as `lines` and `last_line` say. docs/DECISIONS.md says how far a theorem reaches here.
 #![tactic(auto)]
 
-ghost use Rattle.std.specs.Prelude.{◌≤◌, length, IfSome, IfNone};
-ghost use Rattle.input.specs.Input.{Reads};
+use input::{Done, Parts, run_parts};
+use parts::{Arrays, Progress, part_text, put_ending};
+use tables::lent::LentTables;
+use trace::Ending;
 
-use fields::{Reader, Stage};
-use input::{keep_rest, read_behind, say_failed};
-use parts::{Progress, part_text, put_ending};
-use rules::{Collector, Sizes};
-use std::io::{Eprint, Print, Read};
-use trace::Stand;
-
-// A read that fails is said on standard error, and then nobody knows what follows.
-fn read_more<R: Read>(
-    rt: &(impl Alloc + Eprint),
-    stream: &mut R,
-    input: &mut [u8],
-    left: usize,
-) -> Option<usize>
-    requires { left ≤ length input.old }
-    ensures read { IfSome result (λ n. Reads input.old left n input.new) }
-    ensures failed { IfNone result (Reads input.old left left input.new) }
-{
-    match read_behind(stream, input, left) {
-        Ok(n) => Some(n),
-        Err(error) => {
-            say_failed(rt, "replay: the trace can't be read", &error);
-            None
-        }
-    }
+#[derive(Drop)]
+struct Replay<'a> {
+    tables: LentTables<'a>,
+    answers: &'a mut [u16],
+    progress: Progress,
 }
 
-// A write that fails is said on standard error, and no line is made up.
-fn print(rt: &(impl Alloc + Eprint + Print), text: &[u8]) -> bool {
-    match rt.write_all(text) {
-        Ok(()) => true,
-        Err(error) => {
-            say_failed(rt, "replay: the lines can't be written", &error);
-            false
-        }
-    }
-}
+impl Parts for Replay<'_> {
+    ghost use Rattle.std.specs.Prelude.{◌≡◌, length};
+    ghost use Rattle.tables.specs.Lent.{contents};
+    ghost use Rattle.parts.specs.Part.{moved_ending};
+    ghost use Rattle.parts.specs.Arrays.{Set};
+    ghost use Rattle.parts.specs.Begun.{whole_part};
+    ghost use Rattle.parts.specs.Printed.{lines_printed, ending_printed};
+    ghost use Rattle.parts.specs.Buffer.{PlaceFits};
 
-// No run uses up the turns; one that did would have no last line.
-fn say_unended(rt: &impl Eprint) {
-    let _ = eprintln!(rt; "replay: the trace has not ended after 1099511627776 reads");
-}
+    type Ending = Ending;
 
-// A proved loop has to end, and nothing says that an input does. So the turns are counted down, from a number that no run uses up. Behind the last byte of a trace
-// nothing is waited for, so that the last part ends the trace. Where a read fails, or the turns run out, no last line is made up.
-fn main(rt: HostRuntime) {
-    let mut stdin = rt.stdin();
-    let mut used = [0u64; 1];
-    let mut counts = [0u16; 64];
-    let mut held = [0u64; 1];
-    let mut candidates = [0u64; 1];
-    let mut makers = [0u16; 64];
-    let mut values = [0u16; 264];
-    let mut changed = [0u64; 5];
-    let mut registers = [0u16; 33];
-    let mut snoops = [0u16; 4];
-    let mut logs = [0u16; 2112];
-    let mut history = [0u16; 528];
-    let mut lengths = [0u16; 5];
-    let mut input = [0u8; 16384];
-    let mut answers = [0u16; 4684];
-    let mut text = [0u8; 56272];
-    let mut progress = Progress {
-        reader: Reader {
-            stage: Stage::First,
-            step: 0,
-        },
-        sizes: Sizes {
-            n: 0,
-            k: 0,
-            w: 0,
-            r: 0,
-            b: 0,
-        },
-        collector: Collector {
-            phase: 0,
-            position: 0,
-            closed: 0,
-        },
-    };
-    let mut base: usize = 0;
-    let mut left: usize = 0;
-    let mut turns = 1099511627776u64;
-    while turns > 0 {
-        turns -= 1;
-        let Some(n) = read_more(&rt, &mut stdin, &mut input, left) else {
-            return;
-        };
-        let last = n == left;
-        let taken = part_text(
-            &mut used,
-            &mut counts,
-            &mut held,
-            &mut candidates,
-            &mut makers,
-            &mut values,
-            &mut changed,
-            &mut registers,
-            &mut snoops,
-            &mut logs,
-            &mut history,
-            &mut lengths,
-            progress,
-            &input[..n],
+    ghost lines = { λ x bytes last. lines_printed (whole_part x.progress (contents x.tables) last bytes).lines };
+
+    ghost last_line = { λ ending base. ending_printed (moved_ending base ending) };
+
+    ghost ready = { λ x. Set x.progress (contents x.tables) × (length x.answers.now ≡ 4684) };
+
+    ghost room = { 56272 };
+
+    ghost ends = { PlaceFits 18014398509481984 };
+
+    #[tactic(auto, using(parts::proofs::Turn::part_waiting, parts::proofs::Turn::part_fits))]
+    fn part(&mut self, bytes: &[u8], last: bool, text: &mut [u8]) -> Done<Ending> {
+        let done = part_text(
+            &mut self.tables,
+            self.progress,
+            bytes,
             last,
-            &mut answers,
-            &mut text,
+            self.answers,
+            text,
         );
-        let size = taken.size;
-        if !print(&rt, &text[..size]) {
-            return;
+        self.progress = done.part.progress;
+        Done {
+            size: done.size,
+            ending: done.part.stand,
+            next: done.part.next,
         }
-        let part = taken.part;
-        let stand = part.stand;
-        if let Stand::Ended(ending) = stand {
-            let end = put_ending(&mut text, ending, base);
-            print(&rt, &text[..end]);
-            return;
-        }
-        let next = part.next;
-        keep_rest(&mut input, next, n);
-        base += next;
-        left = n - next;
-        progress = part.progress;
     }
-    say_unended(&rt);
+
+    // Said by each program, for `input`, which has the trait, stands on no crate of the pool.
+    fn put_end(&self, text: &mut [u8], ending: Ending, base: usize) -> usize {
+        put_ending(text, ending, base)
+    }
+}
+
+// The room is for a part of 16384 bytes.
+#[tactic(auto, using(parts::proofs::Turn::aside_set))]
+fn main(rt: HostRuntime) {
+    let mut arrays = Arrays::new();
+    let mut replay = Replay {
+        tables: arrays.lend(),
+        answers: &mut [0u16; 4684],
+        progress: Progress::FIRST,
+    };
+    run_parts(
+        &rt,
+        "replay",
+        &mut rt.stdin(),
+        &mut [0u8; 56272],
+        &mut replay,
+    );
 }

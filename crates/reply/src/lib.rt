@@ -13,23 +13,8 @@ use rules::{Answer, Refusal};
 pub fn refusal_number(why: Refusal) -> u16
     ensures { result ≡ refusal_number why }
 {
-    match why {
-        Refusal::WrongSize => 1,
-        Refusal::NotSound => 2,
-        Refusal::NoSuchWorker => 3,
-        Refusal::HoldsNone => 4,
-        Refusal::NoneFree => 5,
-        Refusal::WrongTag => 7,
-        Refusal::WrongLength => 8,
-        Refusal::StopsShort => 9,
-        Refusal::WrongStep => 10,
-        Refusal::ExtraByte => 11,
-        Refusal::WrongCount => 12,
-        Refusal::NoSuchRegister => 13,
-        Refusal::NoSuchLink => 14,
-        Refusal::SizesDiffer => 15,
-        Refusal::OutputShort => 16,
-    }
+    // The number is the discriminant, of which no `From` is made.
+    why as u16
 }
 
 #[tactic(auto, unfolding(rules::specs::Reply::number))]
@@ -37,15 +22,8 @@ pub fn number_of(answer: Answer) -> u16
     ensures { result ≡ number answer }
 {
     match answer {
-        Answer::Fresh => 0,
-        Answer::Made(a) => 0,
-        Answer::Moved(a) => 0,
-        Answer::Dropped => 0,
-        Answer::Loaded(a) => 0,
-        Answer::Stored(a) => 0,
-        Answer::Stepped => 0,
-        Answer::Freed(a) => 0,
         Answer::Refused(why) => refusal_number(why),
+        _ => 0,
     }
 }
 
@@ -54,14 +32,11 @@ pub fn value_of(answer: Answer) -> u16
     ensures { result ≡ value answer }
 {
     match answer {
-        Answer::Fresh => 0,
-        Answer::Made(a) => a.0,
-        Answer::Moved(a) => a.0,
-        Answer::Dropped => 0,
-        Answer::Loaded(a) => a.0,
-        Answer::Stored(a) => a.0,
-        Answer::Stepped => 0,
-        Answer::Freed(a) => a.0,
-        Answer::Refused(why) => 0,
+        Answer::Made(a)
+        | Answer::Moved(a)
+        | Answer::Loaded(a)
+        | Answer::Stored(a)
+        | Answer::Freed(a) => a.0,
+        _ => 0,
     }
 }

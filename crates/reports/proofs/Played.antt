@@ -11,6 +11,7 @@ use mathlib.Core.List.{List, [], ◌∷◌, ◌++◌, append-nil, append_assoc, 
 use native.Mathlib.Omega.{arith}
 use lib.ListN.{length, drop}
 use lib.Seq.{drop-append-le}
+use Rattle.std.specs.Prelude.{Option, Some, None, Result}
 use Rattle.rules.specs.declared.Sizes.{Sizes}
 use Rattle.rules.specs.declared.Event.{Event}
 use Rattle.rules.specs.declared.Refusal.TheVariants.{WrongSize, StopsShort}
@@ -18,28 +19,25 @@ use Rattle.rules.specs.Pool.{Pool, fresh}
 use Rattle.rules.specs.Outcome.{after}
 use Rattle.fields.specs.declared.Stage.TheVariants.{First, Ended}
 use Rattle.fields.specs.declared.Reader.{Reader}
-use Rattle.fields.specs.declared.Field.TheVariants as field
 use Rattle.fields.specs.declared.Read.{Read}
-use Rattle.fields.specs.Field.{read_at}
+use Rattle.fields.specs.declared.RefusedAt.{RefusedAt}
+use Rattle.fields.specs.Field.{refused_at, read_at}
 use Rattle.fields.proofs.Comes.{reader_at, Comes, a_refusal, the_sizes, read_comes}
 use Rattle.cycles.specs.declared.Cycle.{Cycle}
 use Rattle.cycles.specs.declared.Tally.{Tally}
 use Rattle.cycles.specs.Cycles.{cycles_of}
 use Rattle.cycles.proofs.KeptUp.{tallies_are, tallies_append, tally_append}
-use Rattle.trace.specs.declared.Ending.TheVariants.{Stopped}
-use Rattle.trace.specs.declared.Stand.{Stand}
-use Rattle.trace.specs.declared.Stand.TheVariants as stand
 use Rattle.trace.specs.declared.Stood.{Stood}
-use Rattle.trace.specs.Replay.{Left, untouched, stands, Replayed, with_lines, at_start}
+use Rattle.trace.specs.Replay.{Left, Ending, untouched, stands, Replayed, with_lines, at_start}
 use Rattle.trace.specs.Stretch.{behind, stretch}
 use Rattle.trace.specs.Stand.{waits}
 use Rattle.tally.specs.Report.{reported}
 use Rattle.tally.proofs.Whole.{cycles_first, cycles_none}
 use Rattle.parts.specs.Part.{Taken, stand_on, rest_taken, stops_at, first_taken, part_taken, moved_ending, over, played}
-use Rattle.parts.specs.Work.{Work, no_work, rest_work, first_work, part_work}
+use Rattle.parts.specs.Work.{no_work, rest_work, first_work, part_work}
 use Rattle.parts.specs.Printed.{ending_printed}
 use Rattle.parts.proofs.Field.{read_in_front}
-use Rattle.parts.proofs.Between.{Between, before_sizes, behind_sizes, behind_end_lem, part_waits, first_of, first_waits}
+use Rattle.parts.proofs.Between.{Between, before_sizes, behind_sizes, behind_end_lem, part_waits, first_of, work_of, first_waits}
 use Rattle.parts.proofs.Goes.{enough}
 use Rattle.parts.proofs.Works.{left_work, ended-left, rest_works}
 use Rattle.parts.proofs.Played.{played_is_replayed}
@@ -47,9 +45,9 @@ use Rattle.reports.specs.Told.{PartTold, told_from, told_work}
 use Rattle.reports.specs.Printed.{cycles_printed, report_printed, report_parts}
 use Rattle.reports.proofs.Lines.{lines_append}
 
-abbrev pub then_told : PartTold → Stand → (Tally → PartTold) → PartTold
-then_told x (stand.Ended ending) rest = x
-then_told x stand.Waits rest = record { tally = (rest x.tally).tally; cycles = x.cycles ++ (rest x.tally).cycles }
+abbrev pub then_told : PartTold → Option Ending → (Tally → PartTold) → PartTold
+then_told x (Some ending) rest = x
+then_told x None rest = record { tally = (rest x.tally).tally; cycles = x.cycles ++ (rest x.tally).cycles }
 
 -- ---- a part
 
@@ -62,11 +60,11 @@ told_left bytes s p t events y = by_stand y.stand
     later : List Event
     later = (rest_work (drop y.next bytes) 0 y.reader s (after s p events)).events
 
-    by_stand : (st : Stand)
-        → told_from t (stands s p) (events ++ elim st [ stand.Ended ending ↦ [] | stand.Waits ↦ later ])
+    by_stand : (st : Option Ending)
+        → told_from t (stands s p) (events ++ elim st [ Some ending ↦ [] | None ↦ later ])
         ≡ then_told (told_from t (stands s p) events) st (λ u. told_from u (stands s (after s p events)) later)
-    by_stand (stand.Ended ending) = ap (told_from t (stands s p)) (append-nil events)
-    by_stand stand.Waits = λ j. record { tally = tally_append s p t events later j; cycles = tallies_append s p t events later j }
+    by_stand (Some ending) = ap (told_from t (stands s p)) (append-nil events)
+    by_stand None = λ j. record { tally = tally_append s p t events later j; cycles = tallies_append s p t events later j }
 
 module _ (takes : Sizes → Bool) (last : Bool) (part more : List ℕ) (whole : last ≡ true → more ≡ []) (t : Tally) where
   abbrev all : List ℕ
@@ -96,35 +94,24 @@ module _ (takes : Sizes → Bool) (last : Bool) (part more : List ℕ) (whole : 
   unfolding first_work first_taken part_work waits
   first_told step = by_wait (waits last part 0) refl
     where
-      -- the work, by what was read
-      work_of : List ℕ → Read → Work
-      work_of bytes x =
-          elim x.field [
-            | field.Sizes s ↦ cond (takes s) (rest_work bytes x.next x.reader s (fresh s)) no_work
-            | field.Event n e ↦ no_work
-            | field.End ↦ no_work
-            | field.Nothing ↦ no_work
-            | field.Refused why at ↦ no_work
-          ]
-
       by_takes : (b : Bool) (s : Sizes) (next : ℕ) → next ≤ length part
           → Tells (told_work t (cond b (rest_work all next (behind 0) s (fresh s)) no_work)) (told_work t (cond b (rest_work part next (behind 0) s (fresh s)) no_work))
           (cond b (rest_taken last part next (behind 0) s (fresh s)) (stops_at WrongSize 0 (reader_at First step)))
       by_takes true s next inside = rest_told s (fresh s) next 0 inside
       by_takes false s next inside = refl
 
-      by_read : (x : Read) → Comes part 0 step First x
-          → Tells (told_work t (work_of all x)) (told_work t (work_of part x)) (first_of last part takes (reader_at First step) x)
+      by_read : (x : Result Read RefusedAt) → Comes part 0 step First x
+          → Tells (told_work t (work_of all takes x)) (told_work t (work_of part takes x)) (first_of last part takes (reader_at First step) x)
       by_read x (a_refusal why) = refl
       by_read x (the_sizes s next range lies) = by_takes (takes s) s next (omega arith)
 
       by_wait : (wait : Bool) → waits last part 0 ≡ wait
-          → Tells (told_work t (work_of all (read_at all 0 (reader_at First step))))
-          (told_work t (cond wait no_work (work_of part (read_at part 0 (reader_at First step)))))
+          → Tells (told_work t (work_of all takes (read_at all 0 (reader_at First step))))
+          (told_work t (cond wait no_work (work_of part takes (read_at part 0 (reader_at First step)))))
           (cond wait (first_waits last part (reader_at First step)) (first_of last part takes (reader_at First step) (read_at part 0 (reader_at First step))))
       by_wait true e = refl
       by_wait false e =
-          ap (λ (x : Read). told_work t (work_of all x)) (read_in_front part more 0 (reader_at First step) (enough last part more whole 0 e))
+          ap (λ (x : Result Read RefusedAt). told_work t (work_of all takes x)) (read_in_front part more 0 (reader_at First step) (enough last part more whole 0 e))
           ∙ by_read (read_at part 0 (reader_at First step)) (read_comes part 0 step First)
 
   pub part_told_lem : (reader : Reader) (left : Left) → Between reader left
@@ -159,11 +146,11 @@ module _ (takes : Sizes → Bool) where
       x : Taken
       x = part_taken takes true rest reader left
 
-      by_stand : (st : Stand)
-          → elim st [ stand.Ended ending ↦ ending_printed (moved_ending base ending) | stand.Waits ↦ ending_printed (Stopped StopsShort (base + x.stood.next)) ]
-          ≡ last_line (elim st [ stand.Ended ending ↦ over base x ending | stand.Waits ↦ over base x (Stopped StopsShort x.stood.next) ])
-      by_stand (stand.Ended ending) = refl
-      by_stand stand.Waits = refl
+      by_stand : (st : Option Ending)
+          → elim st [ Some ending ↦ ending_printed (moved_ending base ending) | None ↦ ending_printed (refused_at StopsShort (base + x.stood.next)) ]
+          ≡ last_line (elim st [ Some ending ↦ over base x ending | None ↦ over base x (refused_at StopsShort x.stood.next) ])
+      by_stand (Some ending) = refl
+      by_stand None = refl
 
   reports_more : (piece : List ℕ) (pieces : List (List ℕ)) → Reports pieces → Reports (piece ∷ pieces)
   unfolding report_parts played flatten
@@ -197,12 +184,12 @@ module _ (takes : Sizes → Bool) where
       told_later : Tally → PartTold
       told_later u = told_work u (part_work takes true (drop x.stood.next (part ++ flatten pieces)) x.stood.reader x.left)
 
-      by_stand : (st : Stand) → x.stood.stand ≡ st
-          → cycles_printed before y.cycles ++ elim st [ stand.Ended ending ↦ ending_printed (moved_ending base ending) | stand.Waits ↦ text_later ]
+      by_stand : (st : Option Ending) → x.stood.stand ≡ st
+          → cycles_printed before y.cycles ++ elim st [ Some ending ↦ ending_printed (moved_ending base ending) | None ↦ text_later ]
           ≡ cycles_printed before (then_told y st told_later).cycles
-          ++ last_line (elim st [ stand.Ended ending ↦ over base x ending | stand.Waits ↦ with_lines x.lines later ])
-      by_stand (stand.Ended ending) e = refl
-      by_stand stand.Waits e =
+          ++ last_line (elim st [ Some ending ↦ over base x ending | None ↦ with_lines x.lines later ])
+      by_stand (Some ending) e = refl
+      by_stand None e =
           let w = part_waits false part takes reader left between e in
           let lines = cycles_printed before y.cycles in
           let more = cycles_printed (before + length y.cycles) (told_later y.tally).cycles in
@@ -229,19 +216,9 @@ module _ (takes : Sizes → Bool) where
       by_takes true s next = tallies_are s (stretch bytes next 0).events (fresh s) t refl
       by_takes false s next = refl
 
-      by_read : (x : Read) → read_at bytes 0 at_start ≡ x → Comes bytes 0 0 First x
-          → (told_work t
-          (elim x.field [
-            | field.Sizes s ↦ cond (takes s) (rest_work bytes x.next x.reader s (fresh s)) no_work
-            | field.Event n e ↦ no_work
-            | field.End ↦ no_work
-            | field.Nothing ↦ no_work
-            | field.Refused why at ↦ no_work
-          ])
-          ).cycles
-          ≡ (reported takes bytes).cycles
-      by_read x read (a_refusal why) = sym (cycles_none takes bytes (sym read) refl)
-      by_read x read (the_sizes s next range lies) = by_takes (takes s) s next ∙ sym (cycles_first takes bytes (sym read) refl)
+      by_read : (x : Result Read RefusedAt) → read_at bytes 0 at_start ≡ x → Comes bytes 0 0 First x → (told_work t (work_of bytes takes x)).cycles ≡ (reported takes bytes).cycles
+      by_read x read (a_refusal why) = sym (cycles_none takes bytes read)
+      by_read x read (the_sizes s next range lies) = by_takes (takes s) s next ∙ sym (cycles_first takes bytes read refl)
 
   pub report_is : (pieces : List (List ℕ)) (t : Tally) → report_parts takes pieces 0 [] at_start untouched t 0 ≡ report_printed (reported takes (flatten pieces))
   unfolding report_printed reported

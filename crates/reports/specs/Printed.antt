@@ -2,15 +2,14 @@
 --     cycles_printed, report_printed     the text of a report
 --     report_parts                       what is printed for the parts, one after another
 -- Assumes nothing.
-use Rattle.std.specs.Prelude.{ℕ, suc, ◌+◌, Bool, true, false, List, [], ◌∷◌, ◌++◌, length, drop}
+use Rattle.std.specs.Prelude.{ℕ, suc, ◌+◌, Bool, true, false, List, [], ◌∷◌, ◌++◌, length, drop, Some, None}
 use Rattle.rules.specs.declared.Sizes.{Sizes}
 use Rattle.rules.specs.declared.Refusal.TheVariants.{StopsShort}
 use Rattle.fields.specs.declared.Reader.{Reader}
 use Rattle.text.specs.Cycle.{cycle_text}
 use Rattle.cycles.specs.declared.Cycle.{Cycle}
 use Rattle.cycles.specs.declared.Tally.{Tally}
-use Rattle.trace.specs.declared.Ending.TheVariants.{Stopped}
-use Rattle.trace.specs.declared.Stand.TheVariants as stand
+use Rattle.fields.specs.Field.{refused_at}
 use Rattle.trace.specs.Replay.{Left}
 use Rattle.tally.specs.Report.{Reported}
 use Rattle.parts.specs.Part.{Taken, part_taken, moved_ending}
@@ -32,13 +31,13 @@ unfoldable pub report_parts : (Sizes → Bool) → List (List ℕ) → ℕ → L
 report_parts takes [] base rest reader left tally before =
     let x : Taken = part_taken takes true rest reader left in
     cycles_printed before (told_work tally (part_work takes true rest reader left)).cycles
-    ++ elim x.stood.stand [ stand.Ended ending ↦ ending_printed (moved_ending base ending) | stand.Waits ↦ ending_printed (Stopped StopsShort (base + x.stood.next)) ]
+    ++ elim x.stood.stand [ Some ending ↦ ending_printed (moved_ending base ending) | None ↦ ending_printed (refused_at StopsShort (base + x.stood.next)) ]
 report_parts takes (piece ∷ pieces) base rest reader left tally before =
     let part : List ℕ = rest ++ piece in
     let x : Taken = part_taken takes false part reader left in
     let y : PartTold = told_work tally (part_work takes false part reader left) in
     cycles_printed before y.cycles
     ++ elim x.stood.stand [
-      | stand.Ended ending ↦ ending_printed (moved_ending base ending)
-      | stand.Waits ↦ report_parts takes pieces (base + x.stood.next) (drop x.stood.next part) x.stood.reader x.left y.tally (before + length y.cycles)
+      | Some ending ↦ ending_printed (moved_ending base ending)
+      | None ↦ report_parts takes pieces (base + x.stood.next) (drop x.stood.next part) x.stood.reader x.left y.tally (before + length y.cycles)
     ]

@@ -12,7 +12,7 @@
 
 // "N records 1..1024, K links in each 1..8, W workers 1..8, R registers per worker 1..16." "Add B entries, 0 to 16, of one record number each" (document 02,
 // request 5): the board.
-#[derive(Clone, Copy)]
+#[derive(Clone, Copy, PartialEq, Eq, Default)]
 pub struct Sizes {
     pub n: u16,
     pub k: u16,
@@ -22,11 +22,12 @@ pub struct Sizes {
 }
 
 // "Record numbers and link numbers are counted separately and never stand for one another." The one way from a record to a link is the
-// link-number formula, `link_number` of specs/Size.antt, and the one way from a board entry to a link is `board_number` there.
-#[derive(Clone, Copy)]
+// link-number formula, `link_number` of specs/Size.antt, and the one way from a board entry to a link is `board_number` there. None is the number 0 and no case of
+// an `Option`, since the lent tables and `none` of specs/Pool.antt have it so.
+#[derive(Clone, Copy, PartialEq, Eq)]
 pub struct RecordNumber(pub u16);
 
-#[derive(Clone, Copy)]
+#[derive(Clone, Copy, PartialEq, Eq)]
 pub struct LinkNumber(pub u16);
 
 // The letters are document 01's: w a worker, r and q registers of it, f a link of the record in q; e is a board entry (document 02, request 5). Each is one byte, as
@@ -43,41 +44,42 @@ pub enum Event {
     Collect,
 }
 
+// The numbers are those of "Numbers a call may answer", and of document 02. 6 is not used: no pool can produce a full log (document 02, request 4).
 #[derive(Clone, Copy)]
 pub enum Refusal {
-    // 1: a size is out of its range, or a lent table has another length.
-    WrongSize,
-    // 2: the pool is not sound.
-    NotSound,
-    // 3: no such worker (document 02, request 2).
-    NoSuchWorker,
-    // 4: load or store through a register that holds none.
-    HoldsNone,
-    // 5: make, and no record is free.
-    NoneFree,
-    // 6 is not used: no pool can produce a full log (document 02, request 4).
-    // 7: tag unknown, first field not the sizes, or sizes a second time.
-    WrongTag,
-    // 8: field length not the tag's.
-    WrongLength,
-    // 9: the trace stops inside a field or before the end field.
-    StopsShort,
-    // 10: step number not the previous plus one.
-    WrongStep,
-    // 11: a byte after the end field.
-    ExtraByte,
-    // 12: end field's count is not the last step number.
-    WrongCount,
-    // 13: no such register (document 02, request 2).
-    NoSuchRegister,
-    // 14: no such link (document 02, request 2), "also for a board entry that isn't there" (document 02, request 5).
-    NoSuchLink,
-    // 15: two parts differ in sizes (document 02, request 3).
-    SizesDiffer,
-    // 16: the output is too short (document 02, request 3).
-    OutputShort,
+    // A size is out of its range, or a lent table has another length.
+    WrongSize = 1,
+    // The pool is not sound.
+    NotSound = 2,
+    // No such worker (document 02, request 2).
+    NoSuchWorker = 3,
+    // Load or store through a register that holds none.
+    HoldsNone = 4,
+    // Make, and no record is free.
+    NoneFree = 5,
+    // Tag unknown, first field not the sizes, or sizes a second time.
+    WrongTag = 7,
+    // Field length not the tag's.
+    WrongLength = 8,
+    // The trace stops inside a field or before the end field.
+    StopsShort = 9,
+    // Step number not the previous plus one.
+    WrongStep = 10,
+    // A byte after the end field.
+    ExtraByte = 11,
+    // End field's count is not the last step number.
+    WrongCount = 12,
+    // No such register (document 02, request 2).
+    NoSuchRegister = 13,
+    // No such link (document 02, request 2), "also for a board entry that isn't there" (document 02, request 5).
+    NoSuchLink = 14,
+    // Two parts differ in sizes (document 02, request 3).
+    SizesDiffer = 15,
+    // The output is too short (document 02, request 3).
+    OutputShort = 16,
 }
 
+// A refusal is a case here and no `Err` around it, since the definitions of specs/Reply.antt and specs/Outcome.antt read every answer from this one enum.
 #[derive(Clone, Copy)]
 pub enum Answer {
     // An accepted sizes field made the pool fresh.
@@ -100,8 +102,9 @@ pub enum Answer {
     Refused(Refusal),
 }
 
-// "The collector's phase, position and closed-cycle number form one record that each step moves on."
-#[derive(Clone, Copy)]
+// "The collector's phase, position and closed-cycle number form one record that each step moves on." The phase is a number and no enum, since the calls take
+// any number for it, nonsense too: a pool with another phase than 0 to 6 is not sound, and is answered with 2.
+#[derive(Clone, Copy, Default)]
 pub struct Collector {
     pub phase: u16,
     pub position: u16,

@@ -13,6 +13,7 @@ use mathlib.Core.Path.{◌≡◌, refl, sym, ap, ◌∙◌, subst}
 use mathlib.Core.Bool.{Bool, true, false, cond}
 use mathlib.Core.List.{List, [], ◌∷◌, ◌++◌, flatten, append_assoc}
 use native.Mathlib.Omega.{arith}
+use native.Mathlib.Numerals.{add-one}
 use native.Mathlib.Nat.{pow-suc, mod-lt, not-suc-le-zero, le_of_suc-le-suc, zero-lt-suc, div-add-mod', mul-le-mul_right}
 use lib.Dec.{eqb}
 use lib.Bits.{bit_or, or_step, or_zero_r}
@@ -193,22 +194,16 @@ unfolding ones_of digits
 ones-digits zero x h = sym (ap ones (let e : x ≡ 0 = omega arith in e) ∙ none_on)
 ones-digits (suc k) x h = omega (arith, ones-digits k (x / 2) (omega (arith, pow-suc 2 k)), odd_bit x, ones_step x)
 
-pub ones_least : (xs : List Bool) → ones_of xs ≤ length xs
-unfolding ones_of
-ones_least [] = omega arith
-ones_least (true ∷ xs) = omega (arith, ones_least xs)
-ones_least (false ∷ xs) = omega (arith, ones_least xs)
-
 -- ---- in a list of words of 64 bits, as a loop goes through it
 
 -- what is counted in one word, and what is left
 pub ones_next : (words : List ℕ) (i : ℕ) → i < length words → get_or words i 0 < 2 ^ 64
-    → ones_of (bits_of (drop i words)) ≡ ones (get_or words i 0) + ones_of (bits_of (drop (suc i) words))
+    → ones_of (bits_of (drop i words)) ≡ ones (get_or words i 0) + ones_of (bits_of (drop (i + 1) words))
 unfolding bits_by flatten
 ones_next words i h low =
     ap (λ (ws : List ℕ). ones_of (bits_of ws)) (drop-cons words i 0 h)
     ∙ ones_append (digits 64 (get_or words i 0)) (bits_of (drop (suc i) words))
-    ∙ ap (λ (n : ℕ). n + ones_of (bits_of (drop (suc i) words))) (ones-digits 64 (get_or words i 0) low)
+    ∙ (λ j. ones-digits 64 (get_or words i 0) low j + ones_of (bits_of (drop (sym (add-one i) j) words)))
 
 pub none_left : (words : List ℕ) (i : ℕ) → length words ≤ i → ones_of (bits_of (drop i words)) ≡ 0
 unfolding bits_by flatten ones_of

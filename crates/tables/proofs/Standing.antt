@@ -2,12 +2,13 @@
 --     either_at, both_at            one place of two lists of marks
 --     number_next, number_short     a word that gets a bit more, from the lowest on; and one whose other bits are off
 --     byte_joined, halves_joined    the same as the machine does it, and a word of two halves
+--     Half; half-start, half-next, halves-told     a word of 64 tests, in two halves; word_is: a word is the number of its bits
 --     or_word, and_word             one word of two lists of marks, from the words of each
---     pasted_here, pasted_next, pasted_all     words that are written from the front on
+--     with_words, only_words        all words, from one word at a time
 --     with_marks, only_marks        of the marks of a kind
 -- Assumes nothing.
-use Prim.Native.Nat.{ℕ, zero, suc, ◌+◌, ◌*◌, ◌%◌, ◌^◌, ◌≤◌, ◌<◌, max, min}
-use mathlib.Core.Path.{◌≡◌, refl, sym, ap, ◌∙◌}
+use Prim.Native.Nat.{ℕ, zero, suc, ◌+◌, ◌-◌, ◌*◌, ◌%◌, ◌^◌, ◌≤◌, ◌<◌, max, min}
+use mathlib.Core.Path.{◌≡◌, refl, sym, ap, ◌∙◌, subst}
 use mathlib.Core.Bool.{Bool, true, false, ◌&&◌, ◌||◌}
 use mathlib.Core.List.{List, [], ◌∷◌, ◌++◌, map, zip_with, append-nil}
 use mathlib.Core.Logic.{⊎_elim}
@@ -18,14 +19,14 @@ use mir.Val.{bool_byte}
 use lib.Dec.{eqb}
 use lib.Bits.{bit_and, bit_or, or_step, and_step, or_shifted_r}
 use lib.Pow.{shl_exact}
-use lib.ListN.{length, get_or, take, drop, set, length-map, get_or-eq_default}
-use lib.Seq.{get_or-drop, drop-drop, paste, paste-suc, take_all, length-take-le, drop-length, get_or-append-add}
+use lib.ListN.{length, get_or, drop, set, replicate, length-map, length-set, length-append, get_or-append, get_or-eq_default}
+use lib.Seq.{get_or-drop, get_or-set_same, get_or-set_other, get_or-append_right, drop-append_seam, drop-drop, ext_get_or}
 use Rattle.rules.specs.View.{bit}
 use Rattle.rules.specs.Sound.{Each}
-use Rattle.laws.proofs.Lists.{map_at, zip_with_at, length-zip_with}
+use Rattle.laws.proofs.Lists.{Each-places, map_at, zip_with_at, length-zip_with}
 use Rattle.laws.proofs.Tests.{below_or_not}
-use Rattle.tables.specs.Bits.{number, words_by, bits_of, word_count, marks_in, words_of, mark_at, Packed, stands, either, both, with_standing, only_standing}
-use Rattle.tables.proofs.Digits.{half_of, number-low}
+use Rattle.tables.specs.Bits.{digits, number, words_by, bits_of, word_count, marks_in, words_of, mark_at, Packed, stands, either, both, with_standing, only_standing}
+use Rattle.tables.proofs.Digits.{half_of, number-low, digits_number, number_digits, same_number}
 use Rattle.tables.proofs.Words.{words_back, same_words, length_words}
 use Rattle.tables.proofs.Packed.{length-marks_in, same_mark}
 
@@ -45,7 +46,7 @@ or_turned true false = refl
 or_turned false true = refl
 or_turned false false = refl
 
-pub either_at : (xs ys : List Bool) (i : ℕ) → get_or (either xs ys) i false ≡ (get_or xs i false || get_or ys i false)
+either_at : (xs ys : List Bool) (i : ℕ) → get_or (either xs ys) i false ≡ (get_or xs i false || get_or ys i false)
 unfolding either
 either_at [] ys i = refl
 either_at (x ∷ xs) [] zero = or_off x
@@ -53,7 +54,7 @@ either_at (x ∷ xs) [] (suc i) = or_off (get_or xs i false)
 either_at (x ∷ xs) (y ∷ ys) zero = refl
 either_at (x ∷ xs) (y ∷ ys) (suc i) = either_at xs ys i
 
-pub both_at : (xs ys : List Bool) (i : ℕ) → get_or (both xs ys) i false ≡ (get_or xs i false && get_or ys i false)
+both_at : (xs ys : List Bool) (i : ℕ) → get_or (both xs ys) i false ≡ (get_or xs i false && get_or ys i false)
 unfolding zip_with
 both_at [] ys i = refl
 both_at (x ∷ xs) [] i = and_off (get_or (x ∷ xs) i false)
@@ -62,7 +63,7 @@ both_at (x ∷ xs) (y ∷ ys) (suc i) = both_at xs ys i
 
 -- ---- a word, bit by bit from the lowest on
 
-pub number_next : (k : ℕ) (bs : List Bool) → number (suc k) bs ≡ bit (get_or bs k false) * 2 ^ k + number k bs
+number_next : (k : ℕ) (bs : List Bool) → number (suc k) bs ≡ bit (get_or bs k false) * 2 ^ k + number k bs
 unfolding number
 number_next zero bs = omega arith
 number_next (suc k) bs =
@@ -121,6 +122,65 @@ halves_joined bs =
     ∙ or_shifted_r (number 32 (drop 32 bs)) 32 (number 32 bs) (number-low 32 bs)
     ∙ sym (number_parts 32 32 bs)
 
+-- ---- a word of tests
+
+-- the lowest bits of one half, each as a relation says of its place
+pub record Half (says : ℕ → Bool → Type 0) (i half : ℕ) : Type 0 where
+  pub bits : List Bool
+  pub size : length bits ≡ 32
+  pub worth : half ≡ number i bits
+  pub told : (k : ℕ) → k < i → says k (get_or bits k false)
+
+pub half-start : (says : ℕ → Bool → Type 0) → Half says 0 0
+unfolding number
+half-start says = record { bits = replicate 32 false; size = refl; worth = refl; told = λ k h. absurd (omega arith) }
+
+pub half-next : (says : ℕ → Bool → Type 0) (i half r : ℕ) (b : Bool) → i < 32 → Half says i half → says i b → r ≡ bool_byte b
+    → Half says (i + 1) (bit_or half (r * 2 ^ i % 2 ^ 32))
+half-next says i half r b h before now e =
+    let bits : List Bool = set before.bits i b in
+    let other : (k : ℕ) → k < i → get_or bits k false ≡ get_or before.bits k false = λ k l. get_or-set_other before.bits i k b false (λ s. omega arith) in
+    let here : get_or bits i false ≡ b = get_or-set_same before.bits i b false (omega (arith, before.size)) in
+    record {
+      bits = bits;
+      size = length-set before.bits i b ∙ before.size;
+      worth =
+          (λ j. bit_or ((before.worth ∙ sym (same_number i bits before.bits other)) j) (e j * 2 ^ i % 2 ^ 32))
+          ∙ byte_joined 32 i bits b h here;
+      told = λ k l.
+          ⊎_elim
+          (λ (s : k < i). subst (says k) (sym (other k s)) (before.told k s))
+          (λ (s : i ≤ k). let same : i ≡ k = omega arith in subst (λ (n : ℕ). says n (get_or bits n false)) same (subst (says i) (sym here) now))
+          (below_or_not k i);
+    }
+
+-- both halves
+pub halves-told : (says : ℕ → Bool → Type 0) (low high : ℕ) → Half says 32 low → Half (λ k. says (k + 32)) 32 high
+    → (i : ℕ) → i < 64 → says i (get_or (digits 64 (bit_or low (high * 2 ^ 32 % 2 ^ 64))) i false)
+halves-told says low high first second i h =
+    let bits : List Bool = first.bits ++ second.bits in
+    let back : drop 32 bits ≡ second.bits = ap (λ (n : ℕ). drop n bits) (sym first.size) ∙ drop-append_seam first.bits second.bits in
+    let same : number 32 first.bits ≡ number 32 bits =
+    same_number 32 first.bits bits (λ k l. sym (get_or-append first.bits second.bits false k (omega (arith, first.size)))) in
+    let all : bit_or low (high * 2 ^ 32 % 2 ^ 64) ≡ number 64 bits =
+    (λ j. bit_or ((first.worth ∙ same) j) ((second.worth ∙ ap (number 32) (sym back)) j * 2 ^ 32 % 2 ^ 64)) ∙ halves_joined bits in
+    let each : digits 64 (bit_or low (high * 2 ^ 32 % 2 ^ 64)) ≡ bits =
+    ap (digits 64) all ∙ digits_number 64 bits (omega (arith, length-append first.bits second.bits, first.size, second.size)) in
+    subst (λ (bs : List Bool). says i (get_or bs i false)) (sym each)
+    (⊎_elim
+    (λ (l : i < 32). subst (says i) (sym (get_or-append first.bits second.bits false i (omega (arith, first.size)))) (first.told i l))
+    (λ (l : 32 ≤ i).
+    let there : get_or bits i false ≡ get_or second.bits (i - 32) false =
+    get_or-append_right first.bits second.bits i false (omega (arith, first.size)) ∙ ap (λ (n : ℕ). get_or second.bits (i - n) false) first.size in
+    subst (says i) (sym there)
+    (subst (λ (n : ℕ). says n (get_or second.bits (i - 32) false)) (let e : i - 32 + 32 ≡ i = omega arith in e) (second.told (i - 32) (omega arith))))
+    (below_or_not i 32))
+
+-- a word is the number of its bits
+pub word_is : (word : ℕ) (bits : List Bool) → word < 2 ^ 64 → ((i : ℕ) → i < 64 → get_or (digits 64 word) i false ≡ get_or bits i false) → word ≡ number 64 bits
+word_is word bits low same =
+    sym (number_digits 64 word [] low) ∙ ap (number 64) (append-nil (digits 64 word)) ∙ same_number 64 (digits 64 word) bits same
+
 -- ---- one word of two lists
 
 low_bit : (b : Bool) (m : ℕ) → (bit b + m * 2) % 2 ≡ bit b
@@ -139,7 +199,7 @@ both-bit true false = refl
 both-bit false true = refl
 both-bit false false = refl
 
-pub or_number : (k : ℕ) (xs ys zs : List Bool) → ((i : ℕ) → get_or zs i false ≡ (get_or xs i false || get_or ys i false)) → bit_or (number k xs) (number k ys) ≡ number k zs
+or_number : (k : ℕ) (xs ys zs : List Bool) → ((i : ℕ) → get_or zs i false ≡ (get_or xs i false || get_or ys i false)) → bit_or (number k xs) (number k ys) ≡ number k zs
 unfolding number
 or_number zero xs ys zs same = refl
 or_number (suc k) xs ys zs same =
@@ -159,7 +219,7 @@ or_number (suc k) xs ys zs same =
     turned : (m b : ℕ) → m * 2 + b ≡ b + m * 2
     turned m b = omega arith
 
-pub and_number : (k : ℕ) (xs ys zs : List Bool) → ((i : ℕ) → get_or zs i false ≡ (get_or xs i false && get_or ys i false)) → bit_and (number k xs) (number k ys) ≡ number k zs
+and_number : (k : ℕ) (xs ys zs : List Bool) → ((i : ℕ) → get_or zs i false ≡ (get_or xs i false && get_or ys i false)) → bit_and (number k xs) (number k ys) ≡ number k zs
 unfolding number
 and_number zero xs ys zs same = refl
 and_number (suc k) xs ys zs same =
@@ -200,7 +260,7 @@ module _ (x : ℕ) (numbers words : List ℕ) (low : Each (λ w. w < 2 ^ 64) wor
   part_here : number 64 (stands x (drop (q * 64) numbers)) ≡ number 64 (drop (q * 64) (stands x numbers))
   part_here = ap (number 64) (map-drop (λ m. eqb m x) (q * 64) numbers)
 
-  pub or_word : bit_or (get_or words q 0) (number 64 (stands x (drop (q * 64) numbers))) ≡ get_or (with_standing x numbers words) q 0
+  or_word : bit_or (get_or words q 0) (number 64 (stands x (drop (q * 64) numbers))) ≡ get_or (with_standing x numbers words) q 0
   unfolding with_standing
   or_word =
       (λ j. bit_or (word_here j) (part_here j))
@@ -211,7 +271,7 @@ module _ (x : ℕ) (numbers words : List ℕ) (low : Each (λ w. w < 2 ^ 64) wor
       ∙ (λ j. sym (get_or-drop (q * 64) (bits_of words) i false) j || sym (get_or-drop (q * 64) (stands x numbers) i false) j))
       ∙ sym (words_at 64 (length words) (either (bits_of words) (stands x numbers)) q inside)
 
-  pub and_word : bit_and (get_or words q 0) (number 64 (stands x (drop (q * 64) numbers))) ≡ get_or (only_standing x numbers words) q 0
+  and_word : bit_and (get_or words q 0) (number 64 (stands x (drop (q * 64) numbers))) ≡ get_or (only_standing x numbers words) q 0
   unfolding only_standing
   and_word =
       (λ j. bit_and (word_here j) (part_here j))
@@ -222,36 +282,31 @@ module _ (x : ℕ) (numbers words : List ℕ) (low : Each (λ w. w < 2 ^ 64) wor
       ∙ (λ j. sym (get_or-drop (q * 64) (bits_of words) i false) j && sym (get_or-drop (q * 64) (stands x numbers) i false) j))
       ∙ sym (words_at 64 (length words) (both (bits_of words) (stands x numbers)) q inside)
 
--- ---- words that are written from the front on
+-- ---- all words
 
-module _ (words after : List ℕ) (same : length after ≡ length words) where
-  pub pasted_here : (i : ℕ) → i < length words → get_or (paste words 0 after i) i 0 ≡ get_or words i 0
-  pasted_here i h =
-      let front : length (take i after) ≡ i = length-take-le i after (omega arith) in
-      ap (λ (n : ℕ). get_or (take i after ++ drop (0 + i) words) n 0) (let e : i ≡ length (take i after) + 0 = omega arith in e)
-      ∙ get_or-append-add (take i after) (drop (0 + i) words) 0 0
-      ∙ get_or-drop (0 + i) words 0 0
-      ∙ ap (λ (n : ℕ). get_or words n 0) (let e : 0 + i + 0 ≡ i = omega arith in e)
-
-  pub pasted_next : (i : ℕ) → i < length words → set (paste words 0 after i) i (get_or after i 0) ≡ paste words 0 after (i + 1)
-  pasted_next i h =
-      ap (λ (n : ℕ). set (paste words 0 after i) n (get_or after i 0)) (let e : i ≡ 0 + i = omega arith in e)
-      ∙ paste-suc words 0 after i 0 (omega arith) (omega arith)
-      ∙ ap (paste words 0 after) (sym (add-one i))
-
-  pub pasted_all : (i : ℕ) → i ≡ length words → paste words 0 after i ≡ after
-  pasted_all i e =
-      ap (paste words 0 after) e
-      ∙ (λ j. take_all (length words) after (omega arith) j ++ (ap (λ (n : ℕ). drop n words) (let z : 0 + length words ≡ length words = omega arith in z) ∙ drop-length words) j)
-      ∙ append-nil after
-
-pub length_with : (x : ℕ) (numbers words : List ℕ) → length (with_standing x numbers words) ≡ length words
+length_with : (x : ℕ) (numbers words : List ℕ) → length (with_standing x numbers words) ≡ length words
 unfolding with_standing
 length_with x numbers words = length_words 64 (length words) (either (bits_of words) (stands x numbers))
 
-pub length_only : (x : ℕ) (numbers words : List ℕ) → length (only_standing x numbers words) ≡ length words
+length_only : (x : ℕ) (numbers words : List ℕ) → length (only_standing x numbers words) ≡ length words
 unfolding only_standing
 length_only x numbers words = length_words 64 (length words) (both (bits_of words) (stands x numbers))
+
+module _ (x : ℕ) (numbers words after : List ℕ) (low : (i : ℕ) → get_or words i 0 < 2 ^ 64) (size : length after ≡ length words) where
+  all_low : Each (λ w. w < 2 ^ 64) words
+  all_low = Each-places (λ w. w < 2 ^ 64) 0 words (λ i h. low i)
+
+  pub with_words : ((i : ℕ) → i < length words → get_or after i 0 ≡ bit_or (get_or words i 0) (number 64 (stands x (drop (i * 64) numbers))))
+      → after ≡ with_standing x numbers words
+  with_words each =
+      ext_get_or 0 after (with_standing x numbers words) (size ∙ sym (length_with x numbers words))
+      (λ i h. let inside : i < length words = omega arith in each i inside ∙ or_word x numbers words all_low i inside)
+
+  pub only_words : ((i : ℕ) → i < length words → get_or after i 0 ≡ bit_and (get_or words i 0) (number 64 (stands x (drop (i * 64) numbers))))
+      → after ≡ only_standing x numbers words
+  only_words each =
+      ext_get_or 0 after (only_standing x numbers words) (size ∙ sym (length_only x numbers words))
+      (λ i h. let inside : i < length words = omega arith in each i inside ∙ and_word x numbers words all_low i inside)
 
 -- ---- the marks of a kind
 

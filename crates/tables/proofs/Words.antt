@@ -1,6 +1,6 @@
 -- Words of one width, and their bits one after another.
 --     length-bits                 how many bits words have
---     bit_at, bits-set            one bit, in its word
+--     bit_at, bits-set            one bit, in its word; bit_here: of words of 64
 --     bits-drop                   the bits behind some words
 --     words_back, bits_back       the words of bits and the bits of words undo each other
 --     length_words, words_low     words that are made of bits: how many, and each below 2 ^ k
@@ -8,17 +8,17 @@
 --     off_behind, bits_padded     bits that end before the last word does: the others are off
 --     words_off                   the words of bits that are all off
 -- Assumes nothing.
-use Prim.Native.Nat.{ℕ, zero, suc, ◌+◌, ◌-◌, ◌*◌, ◌^◌, ◌≤◌, ◌<◌}
+use Prim.Native.Nat.{ℕ, zero, suc, ◌+◌, ◌-◌, ◌*◌, ◌/◌, ◌%◌, ◌^◌, ◌≤◌, ◌<◌}
 use mathlib.Core.Path.{◌≡◌, refl, sym, ap, ◌∙◌}
 use mathlib.Core.Bool.{Bool, false}
 use mathlib.Core.List.{List, [], ◌∷◌, ◌++◌, map, flatten}
 use native.Mathlib.Omega.{arith}
-use native.Mathlib.Nat.{suc-mul, zero-mul}
+use native.Mathlib.Nat.{suc-mul, zero-mul, mod-lt, zero-lt-suc, div-add-mod'}
 use lib.ListN.{length, get_or, take, drop, set, replicate, length-append, length-map, length-drop, length-replicate, take-append-drop}
 use lib.Seq.{length-take-le, get_or-take, get_or-drop, drop_at, drop-append-add, drop-nil}
 use Rattle.rules.specs.Sound.{Each}
 use Rattle.laws.proofs.Lists.{map-set, map_at}
-use Rattle.tables.specs.Bits.{digits, number, bits_by, words_by}
+use Rattle.tables.specs.Bits.{digits, number, bits_by, words_by, mark_at}
 use Rattle.tables.proofs.Blocks.{Sized, length_joined, joined_at, joined_set}
 use Rattle.tables.proofs.Digits.{length_digits, number_digits, digits_number, number-low, same_number}
 
@@ -126,3 +126,9 @@ module _ (k : ℕ) where
 
   pub words_off : (n m : ℕ) → words_by k n (replicate m false) ≡ replicate n 0
   words_off n m = same_words n (replicate m false) [] (off_behind [] m) ∙ nothing_on n
+
+-- ---- of words of 64 bits
+
+pub bit_here : (words : List ℕ) (place : ℕ) → place < length words * 64 → get_or (digits 64 (get_or words (place / 64) 0)) (place % 64) false ≡ mark_at words place
+bit_here words place h =
+    sym (bit_at 64 words (place / 64) (place % 64) (omega arith) (mod-lt place (zero-lt-suc 63))) ∙ ap (mark_at words) (div-add-mod' place 64)

@@ -17,9 +17,8 @@ pub fn falls(counts: &mut [u16], candidates: &mut [u64], a: RecordNumber)
         return;
     }
     let place = record_place(a);
-    let count = counts[place] - 1;
-    counts[place] = count;
-    if count == 0 {
+    counts[place] -= 1;
+    if counts[place] == 0 {
         set_mark(candidates, place, true);
     }
 }
@@ -33,5 +32,5 @@ pub fn rises(counts: &mut [u16], a: RecordNumber)
         return;
     }
     let place = record_place(a);
-    counts[place] = counts[place] + 1;
+    counts[place] += 1;
 }

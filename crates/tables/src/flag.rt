@@ -14,5 +14,5 @@ pub fn set_flag(flags: &mut [u16], place: usize, on: bool)
     requires { place < length flags.old }
     ensures { flags.new ≡ set flags.old place (bit on) }
 {
-    flags[place] = on as u16;
+    flags[place] = u16::from(on);
 }

@@ -2,12 +2,12 @@
 //     place    the sizes in range, and where a record, a link, a register and a log stand in their tables
 //     mark     marks in words of 64 bits
 //     flag     one flag of a table of flags
-//     list     numbers of a table: set to 0, copied to another
+//     lent     the twelve tables, lent together
 //     count    a record's count, that falls or rises
 #![tactic(auto)]
 
 pub mod count;
 pub mod flag;
-pub mod list;
+pub mod lent;
 pub mod mark;
 pub mod place;

@@ -2,9 +2,9 @@
 //     is_on, set_mark       one mark; has_bit, with_bit: in its word
 //     marks_from            some marks one after another, as a word
 //     first_off, count_off  the first mark that is off, and how many are
-//     mark_standing, keep_standing     the marks where a number stands, by whole words; standing, standing_all: one word
-//     clear_marks           all off
-ghost use Rattle.std.specs.Prelude.{◌≡◌, false, ℕ, ◌+◌, ◌-◌, ◌*◌, ◌≤◌, ◌<◌, length, get_or, drop, set, replicate};
+//     word_of               a word of 64 tests
+//     mark_standing, keep_standing     the marks where a number stands, by whole words; standing: one word; join_standing: a word at a time
+ghost use Rattle.std.specs.Prelude.{◌≡◌, false, ℕ, ◌+◌, ◌-◌, ◌*◌, ◌≤◌, ◌<◌, length, get_or, drop, set};
 ghost use Rattle.tables.specs.Bits.{digits, number, bits_of, word_count, mark_at, marked, first_off, ones_of, stands, with_standing, only_standing};
 
 pub fn has_bit(word: u64, place: usize) -> bool
@@ -25,6 +25,7 @@ fn with_bit(word: u64, place: usize, on: bool) -> u64
     word & !mask
 }
 
+#[tactic(auto, using(crate::proofs::Words::bit_here))]
 pub fn is_on(words: &[u64], place: usize) -> bool
     requires { place < length words.now * 64 }
     ensures { result ≡ mark_at words.now place }
@@ -55,70 +56,72 @@ pub fn marks_from(words: &[u64], from: usize, many: usize) -> u64
 }
 
 // The first mark from a place on that is off, read off a whole word as the trailing zeros of its complement; behind the last word where none is.
+// Some bits of the first word alone are passed over: a `find_map` has to ask of each word whether it is that one, and was slower over 16 words.
 pub fn first_off(words: &[u64], from: usize) -> usize
     requires { (length words.now ≤ 1024) × (from ≤ length words.now * 64) }
     ensures { result ≡ from + first_off (drop from (bits_of words.now)) }
 {
-    let mut i = from / 64;
     let mut passed = (1u64 << (from % 64)) - 1;
-    while i < words.len() {
-        let zeros = u64::trailing_zeros(!(words[i] | passed)) as usize;
+    for i in from / 64..words.len() {
+        // At most 64: no `From` makes a place of it.
+        let zeros = (!(words[i] | passed)).trailing_zeros() as usize;
         if zeros < 64 {
             return i * 64 + zeros;
         }
         passed = 0;
-        i += 1;
     }
-    i * 64
+    words.len() * 64
 }
 
 // "the number of free records comes from the number of ones" (document 02, request 9): n less the ones, whatever words these are.
+#[tactic(auto, using(crate::proofs::Searched::ones_next, crate::proofs::Searched::none_left))]
 pub fn count_off(words: &[u64], n: u16) -> u16
     ensures { result ≡ n - ones_of (bits_of words.now) }
 {
     let mut off = n;
-    let mut i = 0;
-    while i < words.len() {
-        let on = u64::count_ones(words[i]) as u16;
-        if off <= on {
-            return 0;
-        }
-        off -= on;
-        i += 1;
+    for word in words {
+        off = off.saturating_sub(word.count_ones() as u16);
     }
     off
 }
 
-// The word of 64 places, those at which a number stands, without a branch: two halves side by side.
-fn standing_all(numbers: &[u16], x: u16) -> u64
-    requires { 64 ≤ length numbers.now }
-    ensures { result ≡ number 64 (stands x numbers.now) }
+// A word of 64 tests, the lowest bit for place 0, without a branch: two halves side by side.
+pub fn word_of<F: Fn(usize) -> bool>(test: F) -> u64
+    requires { (i : ℕ) → i < 64 → F.pre test i }
+    ensures { (i : ℕ) → i < 64 → F.post test i (get_or (digits 64 result) i false) }
 {
     let mut low = 0u32;
     let mut high = 0u32;
-    let mut i = 0;
-    while i < 32 {
-        low = low | (((numbers[i] == x) as u32) << i);
-        high = high | (((numbers[i + 32] == x) as u32) << i);
-        i += 1;
+    for i in 0..32 {
+        low |= u32::from(test(i)) << i;
+        high |= u32::from(test(i + 32)) << i;
     }
-    (low as u64) | ((high as u64) << 32)
+    u64::from(low) | u64::from(high) << 32
 }
 
-// The word of the first 64 places, or of as many as there are.
+// The word of the first 64 places, or of as many as there are: those at which a number stands. `word_of` is for 64, and the last places are mostly fewer.
 fn standing(numbers: &[u16], x: u16) -> u64
     ensures { result ≡ number 64 (stands x numbers.now) }
 {
     if 64 <= numbers.len() {
-        return standing_all(numbers, x);
+        return word_of(|i| numbers[i] == x);
     }
     let mut word = 0;
-    let mut i = 0;
-    while i < numbers.len() {
-        word = word | (((numbers[i] == x) as u64) << i);
-        i += 1;
+    for (i, n) in numbers.iter().enumerate() {
+        word |= u64::from(*n == x) << i;
     }
     word
+}
+
+// Each word, joined with the word of the places at which a number stands. The words and the numbers are two of the tables that are lent: a struct of both, with the clause
+// of these three functions in it, would be made for them alone.
+fn join_standing<F: Fn(u64, u64) -> u64>(words: &mut [u64], numbers: &[u16], x: u16, join: F)
+    requires { (length words.old ≤ 1024) × (length words.old ≡ word_count (length numbers.now)) × F.IsAlwaysCallable join }
+    ensures { (i : ℕ) → i < length words.old → F.post join (get_or words.old i 0) (number 64 (stands x (drop (i * 64) numbers.now))) (get_or words.new i 0) }
+{
+    for (i, word) in words.iter_mut().enumerate() {
+        *word = join(*word, standing(&numbers[i * 64..], x));
+    }
 }
 
 // The marks where a number stands, on.
@@ -126,11 +129,7 @@ pub fn mark_standing(words: &mut [u64], numbers: &[u16], x: u16)
     requires { (length words.old ≤ 1024) × (length words.old ≡ word_count (length numbers.now)) }
     ensures { words.new ≡ with_standing x numbers.now words.old }
 {
-    let mut i = 0;
-    while i < words.len() {
-        words[i] = words[i] | standing(&numbers[i * 64..], x);
-        i += 1;
-    }
+    join_standing(words, numbers, x, |marks, here| marks | here);
 }
 
 // The marks where another number stands, off.
@@ -138,20 +137,5 @@ pub fn keep_standing(words: &mut [u64], numbers: &[u16], x: u16)
     requires { (length words.old ≤ 1024) × (length words.old ≡ word_count (length numbers.now)) }
     ensures { words.new ≡ only_standing x numbers.now words.old }
 {
-    let mut i = 0;
-    while i < words.len() {
-        words[i] = words[i] & standing(&numbers[i * 64..], x);
-        i += 1;
-    }
-}
-
-// All marks off, and the unused bits with them.
-pub fn clear_marks(words: &mut [u64])
-    ensures { words.new ≡ replicate (length words.old) 0 }
-{
-    let mut i = 0;
-    while i < words.len() {
-        words[i] = 0;
-        i += 1;
-    }
+    join_standing(words, numbers, x, |marks, here| marks & here);
 }

@@ -8,8 +8,7 @@ use Rattle.rules.specs.declared.Sizes.{Sizes}
 use Rattle.rules.specs.Pool.{fresh}
 use Rattle.cycles.specs.declared.Cycle.{Cycle}
 use Rattle.cycles.specs.Cycles.{cycles_of}
-use Rattle.trace.specs.declared.Ending.{Ending}
-use Rattle.trace.specs.Replay.{Left, untouched, stands, replayed}
+use Rattle.trace.specs.Replay.{Ending, Left, untouched, stands, replayed}
 use Rattle.trace.specs.Promise.{events_of}
 
 -- from the fresh pool on; a trace whose sizes are refused has none

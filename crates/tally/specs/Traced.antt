@@ -1,19 +1,14 @@
 -- The report of a whole trace on lent tables: what the call answers and leaves, for every byte string and every table.
 --     ReportOn, report_by      all that the call answers and leaves, by the replay of the trace and its closed cycles
 --     report_traced            of the trace
---     cycles_behind, report_sized     of what comes behind a sizes field
 -- Assumes nothing.
-use Rattle.std.specs.Prelude.{ℕ, cond, List, [], ℤ, length}
-use Rattle.rules.specs.declared.Sizes.{Sizes}
+use Rattle.std.specs.Prelude.{ℕ, List, [], ℤ, length}
 use Rattle.rules.specs.declared.Collector.{Collector}
-use Rattle.rules.specs.Pool.{fresh}
 use Rattle.tables.specs.Tables.{Tables}
 use Rattle.fresh.specs.Fits.{is_exact}
 use Rattle.cycles.specs.declared.Cycle.{Cycle}
-use Rattle.cycles.specs.Cycles.{cycles_of}
 use Rattle.cycles.specs.Slice.{put_cycles}
-use Rattle.trace.specs.Stretch.{stretch}
-use Rattle.trace.specs.Traced.{Traced, traced, sized}
+use Rattle.trace.specs.Traced.{Traced, traced}
 use Rattle.tally.specs.declared.Report.{Report}
 use Rattle.tally.specs.Report.{reported}
 
@@ -28,10 +23,3 @@ report_by x closed room = record { report = record { replay = x.replay; cycles =
 
 unfoldable pub report_traced : Tables → Collector → List ℕ → List ℤ → ReportOn
 report_traced t c bytes room = report_by (traced t c bytes []) (reported (λ s. is_exact s t) bytes).cycles room
-
--- the sizes are taken if the lent tables have their lengths
-abbrev pub cycles_behind : Sizes → Tables → List ℕ → ℕ → List Cycle
-cycles_behind s t bytes place = cond (is_exact s t) (cycles_of s (fresh s) (stretch bytes place 0).events) []
-
-unfoldable pub report_sized : Sizes → Tables → Collector → List ℕ → ℕ → List ℤ → ReportOn
-report_sized s t c bytes place room = report_by (sized s t c bytes place []) (cycles_behind s t bytes place) room

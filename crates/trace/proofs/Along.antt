@@ -11,6 +11,7 @@ use mathlib.Core.Bool.{Bool, true, false}
 use mathlib.Core.List.{List}
 use native.Mathlib.Omega.{arith}
 use lib.ListN.{length}
+use Rattle.std.specs.Prelude.{Result, Ok, Err}
 use Rattle.rules.specs.declared.Sizes.{Sizes}
 use Rattle.rules.specs.declared.Event.{Event}
 use Rattle.rules.specs.Pool.{Pool}
@@ -21,6 +22,7 @@ use Rattle.fields.specs.declared.Reader.{Reader}
 use Rattle.fields.specs.declared.Field.{Field}
 use Rattle.fields.specs.declared.Field.TheVariants as field
 use Rattle.fields.specs.declared.Read.{Read}
+use Rattle.fields.specs.declared.RefusedAt.{RefusedAt}
 use Rattle.fields.specs.Field.{read_at}
 use Rattle.fields.specs.Part.{is_taken}
 use Rattle.trace.specs.Replay.{Left, stands, Replayed, line_of, with_line, with_lines, goes}
@@ -28,55 +30,45 @@ use Rattle.trace.specs.Stretch.{Stretch, no_event, with_event, behind, stretch, 
 use Rattle.fields.proofs.Comes.{reader_at, event_read, Comes, a_refusal, an_event, the_end, read_comes}
 use Rattle.trace.proofs.Turns.{turn, goes_turn, stretch_turn, stretch_turn_lem}
 
-abbrev pub is_event : Field → Bool
-is_event (field.Sizes s) = false
-is_event (field.Event step e) = true
-is_event field.End = false
-is_event field.Nothing = false
-is_event (field.Refused why place) = false
+abbrev pub is_event : Result Read RefusedAt → Bool
+is_event (Err e) = false
+is_event (Ok x) = elim x.field [ field.Sizes s ↦ false | field.Event step e ↦ true | field.End ↦ false | field.Nothing ↦ false ]
 
-pub no_event_is : (f : Field) → ((n : ℕ) (e : Event) → f ≡ field.Event n e → ⊥) → is_event f ≡ false
-no_event_is (field.Sizes s) other = refl
-no_event_is (field.Event n e) other = absurd (other n e refl)
-no_event_is field.End other = refl
-no_event_is field.Nothing other = refl
-no_event_is (field.Refused why place) other = refl
+pub no_event_is : (r : Result Read RefusedAt) → ((x : Read) (n : ℕ) (e : Event) → r ≡ Ok x → x.field ≡ field.Event n e → ⊥) → is_event r ≡ false
+no_event_is (Err e) other = refl
+no_event_is (Ok x) other = by_field x.field refl
+  where
+    by_field : (f : Field) → x.field ≡ f → is_event (Ok (record { field = f; next = x.next; reader = x.reader })) ≡ false
+    by_field (field.Sizes s) is = refl
+    by_field (field.Event n e) is = absurd (other x n e refl is)
+    by_field field.End is = refl
+    by_field field.Nothing is = refl
 
 module _ (bytes : List ℕ) (place step : ℕ) where
-  -- the step number of an event: "the previous plus one"
-  pub event_follows : (n : ℕ) (e : Event) → (read_at bytes place (behind step)).field ≡ field.Event n e → suc step ≡ n
-  event_follows n e = by_read (read_at bytes place (behind step)) (read_comes bytes place step Events)
+  -- an event stands there, and the next field behind it
+  pub stretch_event : (n : ℕ) (e : Event) (next : ℕ) → read_at bytes place (behind step) ≡ Ok (event_read n e next)
+      → stretch bytes place step ≡ with_event e (stretch bytes next n)
+  stretch_event n e next read = stretch_turn_lem bytes place step ∙ ap (stretch_turn (stretch bytes) place step) read
+
+  pub stretch-none : is_event (read_at bytes place (behind step)) ≡ false → stretch bytes place step ≡ no_event place step
+  stretch-none none = stretch_turn_lem bytes place step ∙ by_read (read_at bytes place (behind step)) none
     where
-      by_read : (x : Read) → Comes bytes place step Events x → x.field ≡ field.Event n e → suc step ≡ n
-      by_read x (a_refusal why) reads = absurd (let z : ◌≡◌ {A = ℕ} 0 1 = cc in omega arith)
-      by_read x (an_event other next lies) reads = cc
-      by_read x (the_end next lies) reads = absurd (let z : ◌≡◌ {A = ℕ} 0 1 = cc in omega arith)
-
-  -- a stretch, by the field that was read
-  turn_of : Field → Stretch
-  turn_of f = let x = read_at bytes place (behind step) in stretch_turn (stretch bytes) place step (record { field = f; next = x.next; reader = x.reader })
-
-  pub stretch_event : (n : ℕ) (e : Event) → (read_at bytes place (behind step)).field ≡ field.Event n e
-      → stretch bytes place step ≡ with_event e (stretch bytes (read_at bytes place (behind step)).next n)
-  unfolding turn_of
-  stretch_event n e reads = stretch_turn_lem bytes place step ∙ ap turn_of reads
-
-  pub stretch-none : is_event (read_at bytes place (behind step)).field ≡ false → stretch bytes place step ≡ no_event place step
-  unfolding turn_of
-  stretch-none none = stretch_turn_lem bytes place step ∙ by_field (read_at bytes place (behind step)).field none
-    where
-      by_field : (f : Field) → is_event f ≡ false → turn_of f ≡ no_event place step
-      by_field (field.Sizes s) none = refl
-      by_field (field.Event n e) none = absurd (let z : ◌≡◌ {A = ℕ} 0 1 = cc in omega arith)
-      by_field field.End none = refl
-      by_field field.Nothing none = refl
-      by_field (field.Refused why at) none = refl
+      by_read : (r : Result Read RefusedAt) → is_event r ≡ false → stretch_turn (stretch bytes) place step r ≡ no_event place step
+      by_read (Err e) none = refl
+      by_read (Ok x) none = by_field x.field none
+        where
+          by_field : (f : Field) → is_event (Ok (record { field = f; next = x.next; reader = x.reader })) ≡ false
+              → stretch_turn (stretch bytes) place step (Ok (record { field = f; next = x.next; reader = x.reader })) ≡ no_event place step
+          by_field (field.Sizes s) none = refl
+          by_field (field.Event n e) none = absurd (let z : ◌≡◌ {A = ℕ} 0 1 = cc in omega arith)
+          by_field field.End none = refl
+          by_field field.Nothing none = refl
 
 module _ (bytes : List ℕ) where
   pub data Runs : ℕ → ℕ → Stretch → Type 0 where
-    no_event_lem : {place step : ℕ} → is_event (read_at bytes place (behind step)).field ≡ false → Runs place step (no_event place step)
+    no_event_lem : {place step : ℕ} → is_event (read_at bytes place (behind step)) ≡ false → Runs place step (no_event place step)
     then_more : {place step next : ℕ} {e : Event} {rest : Stretch}
-        → read_at bytes place (behind step) ≡ event_read (suc step) e next → Runs next (suc step) rest → Runs place step (with_event e rest)
+        → read_at bytes place (behind step) ≡ Ok (event_read (suc step) e next) → Runs next (suc step) rest → Runs place step (with_event e rest)
 
   runs_within : (most place step : ℕ) → length bytes - place < most → Runs place step (stretch bytes place step)
   runs_within zero place step enough = absurd (omega arith)
@@ -84,21 +76,21 @@ module _ (bytes : List ℕ) where
       subst (Runs place step) (sym (stretch_turn_lem bytes place step))
       (by_read (read_at bytes place (behind step)) refl (read_comes bytes place step Events) (λ next n later inside. runs_within most next n (omega arith)))
     where
-      by_read : (x : Read) → read_at bytes place (behind step) ≡ x → Comes bytes place step Events x
+      by_read : (x : Result Read RefusedAt) → read_at bytes place (behind step) ≡ x → Comes bytes place step Events x
           → ((next n : ℕ) → place < next → next ≤ length bytes → Runs next n (stretch bytes next n))
           → Runs place step (stretch_turn (stretch bytes) place step x)
-      by_read x read (a_refusal why) rest = no_event_lem (ap (λ (y : Read). is_event y.field) read)
+      by_read x read (a_refusal why) rest = no_event_lem (ap is_event read)
       by_read x read (an_event e next lies) rest = then_more read (rest next (suc step) (omega arith) (omega arith))
-      by_read x read (the_end next lies) rest = no_event_lem (ap (λ (y : Read). is_event y.field) read)
+      by_read x read (the_end next lies) rest = no_event_lem (ap is_event read)
 
   pub stretch-runs : (place step : ℕ) → Runs place step (stretch bytes place step)
   stretch-runs place step = runs_within (suc (length bytes)) place step (omega arith)
 
-  ends_at : {place step : ℕ} (x : Stretch) → Runs place step x → is_event (read_at bytes x.next (behind x.step)).field ≡ false
+  ends_at : {place step : ℕ} (x : Stretch) → Runs place step x → is_event (read_at bytes x.next (behind x.step)) ≡ false
   ends_at x (no_event_lem none) = none
   ends_at x (then_more {rest = rest} read more) = ends_at rest more
 
-  pub stretch-ends : (place step : ℕ) → let x = stretch bytes place step in is_event (read_at bytes x.next (behind x.step)).field ≡ false
+  pub stretch-ends : (place step : ℕ) → let x = stretch bytes place step in is_event (read_at bytes x.next (behind x.step)) ≡ false
   stretch-ends place step = ends_at (stretch bytes place step) (stretch-runs place step)
 
 module _ (takes : Sizes → Bool) (bytes : List ℕ) where
@@ -111,20 +103,20 @@ module _ (takes : Sizes → Bool) (bytes : List ℕ) where
   goes_on_turn place step stage left = goes_turn takes bytes (suc (length bytes)) place step stage left (omega arith)
 
   -- a part whose fields are read so in all the bytes
-  module _ (part : List ℕ) (same : (place : ℕ) (reader : Reader) → is_taken (read_at part place reader).field ≡ true → read_at bytes place reader ≡ read_at part place reader) where
+  module _ (part : List ℕ) (same : (place : ℕ) (reader : Reader) (x : Read) → read_at part place reader ≡ Ok x → is_taken x.field ≡ true → read_at bytes place reader ≡ Ok x) where
     pub goes_along : (s : Sizes) (p : Pool) {place step : ℕ} (x : Stretch) → Runs part place step x
         → goes_on place (behind step) (stands s p)
         ≡ with_lines (lines_behind step (answers s p x.events)) (goes_on x.next (behind x.step) (stands s (after s p x.events)))
     unfolding lines_behind answers after
     goes_along s p x (no_event_lem none) = refl
-    goes_along s p x (then_more {place = place} {step = step} {e = e} {rest = rest} read more) =
+    goes_along s p x (then_more {place = place} {step = step} {next = next} {e = e} {rest = rest} read more) =
         let o = outcome s p e in
         goes_on_turn place step Events (stands s p)
-        ∙ ap (turn takes goes_on place (stands s p)) (same place (behind step) (ap (λ (y : Read). is_taken y.field) read) ∙ read)
+        ∙ ap (turn takes goes_on place (stands s p)) (same place (behind step) (event_read (suc step) e next) read refl)
         ∙ ap (with_line (line_of (suc step) o.answer)) (goes_along s o.pool rest more)
 
   pub goes-stretch : (s : Sizes) (p : Pool) (place step : ℕ)
       → let x = stretch bytes place step in
       goes_on place (behind step) (stands s p)
       ≡ with_lines (lines_behind step (answers s p x.events)) (goes_on x.next (behind x.step) (stands s (after s p x.events)))
-  goes-stretch s p place step = goes_along bytes (λ place reader taken. refl) s p (stretch bytes place step) (stretch-runs bytes place step)
+  goes-stretch s p place step = goes_along bytes (λ place reader x read taken. read) s p (stretch bytes place step) (stretch-runs bytes place step)

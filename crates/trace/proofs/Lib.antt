@@ -5,7 +5,8 @@
 --     Put           the answers that were put into a caller's slice
 --     Rest          a stretch done event by event on lent tables
 --     Sized         a trace behind its sizes field
---     Whole         a whole trace, by its first field
+--     FirstField    a whole trace, by its first field
+--     AnswersTold   what the teller of answers is told is what the call puts
 --     WholeCase     document 01's whole case, computed by the definitions
 --     Lines         the lines of a run
 --     Promised      what is promised of a whole trace
@@ -15,9 +16,11 @@ pub mod Turns
 pub mod Along
 pub mod Behind
 pub mod Put
+pub mod Told
 pub mod Rest
 pub mod Sized
-pub mod Whole
+pub mod FirstField
+pub mod AnswersTold
 pub mod WholeCase
 pub mod Lines
 pub mod Promised

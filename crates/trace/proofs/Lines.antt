@@ -6,11 +6,12 @@
 -- Assumes nothing.
 use Prim.Native.Nat.{ℕ, zero, suc, ◌+◌}
 use mathlib.Core.Path.{◌≡◌, refl, sym, ap, ◌∙◌}
-use mathlib.Core.Bool.{true, ◌||◌}
+use mathlib.Core.Bool.{true, false, ◌||◌}
 use mathlib.Core.List.{List, [], ◌∷◌, ◌++◌}
 use native.Mathlib.Omega.{arith}
 use native.Mathlib.Nat.{add-zero}
 use lib.ListN.{length, drop}
+use Rattle.std.specs.Prelude.{Result, Ok, Err}
 use Rattle.rules.specs.declared.Sizes.{Sizes}
 use Rattle.rules.specs.declared.RecordNumber.{RecordNumber}
 use Rattle.rules.specs.declared.Event.{Event}
@@ -21,15 +22,17 @@ use Rattle.rules.specs.Outcome.{outcome, answers, after, answers_freed}
 use Rattle.promises.specs.Cycle.{freed_among}
 use Rattle.fields.specs.declared.Reader.{Reader}
 use Rattle.fields.specs.declared.Field.{Field}
+use Rattle.fields.specs.declared.Read.{Read}
+use Rattle.fields.specs.declared.RefusedAt.{RefusedAt}
 use Rattle.fields.specs.declared.Field.TheVariants as field
 use Rattle.fields.specs.Field.{read_at}
-use Rattle.rules.specs.declared.Refusal.TheVariants.{WrongTag}
-use Rattle.trace.specs.declared.Ending.TheVariants.{Whole, Stopped}
+use Rattle.trace.specs.declared.Whole.{Whole}
 use Rattle.trace.specs.declared.Stood.{Stood}
-use Rattle.trace.specs.Replay.{line_of}
+use Rattle.trace.specs.Replay.{ended_whole, line_of}
 use Rattle.trace.specs.Stretch.{lines_behind}
-use Rattle.trace.specs.Stand.{waits, ended, stood, ending_of}
+use Rattle.trace.specs.Stand.{waits, stood, ending_of}
 use Rattle.trace.specs.Promise.{line_at, line_frees, lines_free}
+use Rattle.trace.proofs.Behind.{look}
 
 -- ---- where a line stands
 
@@ -77,31 +80,25 @@ lines_free_lem s p a step (e ∷ events) later =
 -- ---- the numbers of an ending
 
 module _ (free closed : ℕ) (f c at : ℕ) where
-  -- a look at the next field
-  abbrev look : Stood → ℕ → Reader → Field → Stood
-  look onward place reader g =
-      elim g [
-        | field.Sizes s ↦ ended (Stopped WrongTag place) place reader
-        | field.Event n e ↦ ended (Stopped WrongTag place) place reader
-        | field.End ↦ onward
-        | field.Nothing ↦ ended (Whole free closed) place reader
-        | field.Refused why at ↦ ended (Stopped why at) place reader
-      ]
-
   pub whole_numbers : (fields : ℕ) (bytes : List ℕ) (place : ℕ) (reader : Reader)
-      → ending_of (stood fields true free closed bytes place reader).stand at ≡ Whole f c → (f ≡ free) × (c ≡ closed)
+      → ending_of (stood fields true free closed bytes place reader).stand at ≡ ended_whole f c → (f ≡ free) × (c ≡ closed)
   unfolding stood waits
   whole_numbers zero bytes place reader h = absurd (let z : ◌≡◌ {A = ℕ} 0 1 = cc in omega arith)
-  whole_numbers (suc fields) bytes place reader h =
-      let x = read_at bytes place reader in by_field x.field (whole_numbers fields bytes x.next x.reader) h
+  whole_numbers (suc fields) bytes place reader h = by_read (read_at bytes place reader) (λ x. whole_numbers fields bytes x.next x.reader) h
     where
-      onward : Stood
-      onward = let x = read_at bytes place reader in stood fields true free closed bytes x.next x.reader
+      onward : ℕ → Reader → Stood
+      onward = stood fields true free closed bytes
 
-      by_field : (g : Field) → (ending_of onward.stand at ≡ Whole f c → (f ≡ free) × (c ≡ closed))
-          → ending_of (look onward place reader g).stand at ≡ Whole f c → (f ≡ free) × (c ≡ closed)
-      by_field (field.Sizes s) more h = absurd (let z : ◌≡◌ {A = ℕ} 0 1 = cc in omega arith)
-      by_field (field.Event n e) more h = absurd (let z : ◌≡◌ {A = ℕ} 0 1 = cc in omega arith)
-      by_field field.End more h = more h
-      by_field field.Nothing more h = let one : f ≡ free = cc in let other : c ≡ closed = cc in (one, other)
-      by_field (field.Refused why place) more h = absurd (let z : ◌≡◌ {A = ℕ} 0 1 = cc in omega arith)
+      by_read : (r : Result Read RefusedAt) → ((x : Read) → ending_of (onward x.next x.reader).stand at ≡ ended_whole f c → (f ≡ free) × (c ≡ closed))
+          → ending_of (look false onward free closed place reader r).stand at ≡ ended_whole f c → (f ≡ free) × (c ≡ closed)
+      by_read (Err e) more h = absurd (let z : ◌≡◌ {A = ℕ} 0 1 = cc in omega arith)
+      by_read (Ok x) more h = by_field x.field (more x) h
+        where
+          by_field : (g : Field) → (ending_of (onward x.next x.reader).stand at ≡ ended_whole f c → (f ≡ free) × (c ≡ closed))
+              → ending_of (look false onward free closed place reader (Ok (record { field = g; next = x.next; reader = x.reader }))).stand at ≡ ended_whole f c
+              → (f ≡ free) × (c ≡ closed)
+          by_field (field.Sizes s) more h = absurd (let z : ◌≡◌ {A = ℕ} 0 1 = cc in omega arith)
+          by_field (field.Event n e) more h = absurd (let z : ◌≡◌ {A = ℕ} 0 1 = cc in omega arith)
+          by_field field.End more h = more h
+          by_field field.Nothing more h =
+              let ends : ◌≡◌ {A = Whole} (record { free = free; closed = closed }) (record { free = f; closed = c }) = cc in (ap (λ (w : Whole). w.free) (sym ends), ap (λ (w : Whole). w.closed) (sym ends))

@@ -15,6 +15,7 @@ use mathlib.Core.List.{List, ◌∷◌, ◌++◌, append-nil}
 use native.Mathlib.Omega.{arith}
 use native.Mathlib.Nat.{zero-add}
 use lib.ListN.{length, drop}
+use Rattle.std.specs.Prelude.{Result, Ok, Err}
 use Rattle.rules.specs.declared.Sizes.{Sizes}
 use Rattle.rules.specs.declared.RecordNumber.{RecordNumber}
 use Rattle.rules.specs.declared.Event.{Event}
@@ -36,10 +37,9 @@ use Rattle.fresh.specs.Fits.{is_exact}
 use Rattle.tables.specs.Event.{LentPool}
 use Rattle.fields.specs.declared.Stage.TheVariants.{First}
 use Rattle.fields.specs.declared.Read.{Read}
-use Rattle.fields.specs.Field.{read_at}
-use Rattle.trace.specs.declared.Ending.{Ending}
-use Rattle.trace.specs.declared.Ending.TheVariants.{Whole, Stopped}
-use Rattle.trace.specs.Replay.{Line, untouched, stands, Replayed, line_of, with_lines, stops, at_start, replayed}
+use Rattle.fields.specs.declared.RefusedAt.{RefusedAt}
+use Rattle.fields.specs.Field.{refused_at, read_at}
+use Rattle.trace.specs.Replay.{Line, Ending, ended_whole, untouched, stands, Replayed, line_of, with_lines, stops, at_start, replayed}
 use Rattle.trace.specs.Stretch.{Stretch, behind, stretch, lines_behind, put}
 use Rattle.trace.specs.Stand.{stand_behind, ending_of}
 use Rattle.trace.specs.Traced.{left_on, traced_by, traced}
@@ -49,7 +49,7 @@ use Rattle.trace.proofs.Turns.{turn}
 use Rattle.trace.proofs.Along.{goes_on, stretch-ends, goes-stretch}
 use Rattle.trace.proofs.Behind.{goes_last}
 use Rattle.trace.proofs.Sized.{length_lines}
-use Rattle.trace.proofs.Whole.{replay_starts}
+use Rattle.trace.proofs.FirstField.{replay_starts}
 use Rattle.trace.proofs.Lines.{line_of_event, lines_behind_lem, line_frees_lem, lines_free_lem, whole_numbers}
 
 -- ---- a replay is a run
@@ -74,19 +74,23 @@ module _ (takes : Sizes → Bool) (bytes : List ℕ) where
         ∙ ap (with_lines lines) (goes_last takes bytes s q x.next x.step (stretch-ends bytes place 0))
         ∙ (λ j. record { lines = append-nil lines j; ending = ending; left = stands s q })
 
-  sized-runs : (s : Sizes) (next : ℕ) → read_at bytes 0 at_start ≡ sizes_read s next → in_range s ≡ true → takes s ≡ true → Run takes bytes s
+  sized-runs : (s : Sizes) (next : ℕ) → read_at bytes 0 at_start ≡ Ok (sizes_read s next) → in_range s ≡ true → takes s ≡ true → Run takes bytes s
   unfolding events_of
   sized-runs s next read range taken =
       record {
-        first = ap (λ (r : Read). r.field) read;
+        first = (sizes_read s next, read, refl);
         range = range;
         taken = taken;
-        lines = ap (λ (r : Replayed). r.lines) all ∙ ap (λ (r : Read). lines_behind 0 (answers s (fresh s) (stretch bytes r.next 0).events)) (sym read);
-        left = ap (λ (r : Replayed). r.left) all ∙ ap (λ (r : Read). stands s (after s (fresh s) (stretch bytes r.next 0).events)) (sym read);
-        free = λ free closed h. (numbers free closed h).0 ∙ ap (λ (r : Read). free_records (after s (fresh s) (stretch bytes r.next 0).events)) (sym read);
-        closed = λ free closed h. (numbers free closed h).1 ∙ ap (λ (r : Read). (after s (fresh s) (stretch bytes r.next 0).events).collector.closed) (sym read);
+        lines = ap (λ (r : Replayed). r.lines) all ∙ ap (λ r. lines_behind 0 (answers s (fresh s) (first_events r))) (sym read);
+        left = ap (λ (r : Replayed). r.left) all ∙ ap (λ r. stands s (after s (fresh s) (first_events r))) (sym read);
+        free = λ free closed h. (numbers free closed h).0 ∙ ap (λ r. free_records (after s (fresh s) (first_events r))) (sym read);
+        closed = λ free closed h. (numbers free closed h).1 ∙ ap (λ r. (after s (fresh s) (first_events r)).collector.closed) (sym read);
       }
     where
+      -- the events behind what was read
+      first_events : Result Read RefusedAt → List Event
+      first_events r = (stretch bytes (elim r [ Ok x ↦ x.next | Err e ↦ e.place ]) 0).events
+
       all : replayed takes bytes
           ≡ record { lines = lines_behind 0 (answers s (fresh s) (x s next).events); ending = ending s next; left = stands s (q s next) }
       all =
@@ -95,7 +99,7 @@ module _ (takes : Sizes → Bool) (bytes : List ℕ) where
           ∙ ap (λ (b : Bool). cond b (goes_on takes bytes next (behind 0) (stands s (fresh s))) (stops WrongSize 0 untouched)) taken
           ∙ goes_so s next
 
-      numbers : (free closed : ℕ) → (replayed takes bytes).ending ≡ Whole free closed → (free ≡ free_records (q s next)) × (closed ≡ (q s next).collector.closed)
+      numbers : (free closed : ℕ) → (replayed takes bytes).ending ≡ ended_whole free closed → (free ≡ free_records (q s next)) × (closed ≡ (q s next).collector.closed)
       numbers free closed h =
           whole_numbers (free_records (q s next)) (q s next).collector.closed free closed (x s next).next 2 bytes (x s next).next (behind (x s next).step)
           (ap (λ (r : Replayed). r.ending) (sym all) ∙ h)
@@ -103,7 +107,7 @@ module _ (takes : Sizes → Bool) (bytes : List ℕ) where
   pub every_trace : Shown takes bytes
   every_trace = by_read (read_at bytes 0 at_start) refl (read_comes bytes 0 0 First)
     where
-      by_takes : (s : Sizes) (next : ℕ) → read_at bytes 0 at_start ≡ sizes_read s next → in_range s ≡ true → (b : Bool) → takes s ≡ b → Shown takes bytes
+      by_takes : (s : Sizes) (next : ℕ) → read_at bytes 0 at_start ≡ Ok (sizes_read s next) → in_range s ≡ true → (b : Bool) → takes s ≡ b → Shown takes bytes
       by_takes s next read range true taken = a_run s (sized-runs s next read range taken)
       by_takes s next read range false refused =
           nothing_touched WrongSize
@@ -111,17 +115,17 @@ module _ (takes : Sizes → Bool) (bytes : List ℕ) where
           ∙ ap (turn takes (goes_on takes bytes) 0 untouched) read
           ∙ ap (λ (b : Bool). cond b (goes_on takes bytes next (behind 0) (stands s (fresh s))) (stops WrongSize 0 untouched)) refused)
 
-      by_read : (r : Read) → read_at bytes 0 at_start ≡ r → Comes bytes 0 0 First r → Shown takes bytes
+      by_read : (r : Result Read RefusedAt) → read_at bytes 0 at_start ≡ r → Comes bytes 0 0 First r → Shown takes bytes
       by_read r read (a_refusal why) = nothing_touched why (replay_starts takes bytes ∙ ap (turn takes (goes_on takes bytes) 0 untouched) read)
       by_read r read (the_sizes s next range lies) = by_takes s next read range (takes s) refl
 
-  pub whole_is_a_run : (free closed : ℕ) → (replayed takes bytes).ending ≡ Whole free closed → (s : Sizes) × Run takes bytes s
+  pub whole_is_a_run : (free closed : ℕ) → (replayed takes bytes).ending ≡ ended_whole free closed → (s : Sizes) × Run takes bytes s
   whole_is_a_run free closed whole = by_shown every_trace
     where
       by_shown : Shown takes bytes → (s : Sizes) × Run takes bytes s
       by_shown (a_run s run) = (s, run)
       by_shown (nothing_touched why stopped) =
-          let other : Stopped why 0 ≡ Whole free closed = ap (λ (r : Replayed). r.ending) (sym stopped) ∙ whole in
+          let other : refused_at why 0 ≡ ended_whole free closed = ap (λ (r : Replayed). r.ending) (sym stopped) ∙ whole in
           absurd (let z : ◌≡◌ {A = ℕ} 0 1 = cc in omega arith)
 
 -- ---- the call on lent tables, which takes the sizes that they have the lengths of
@@ -156,7 +160,7 @@ module _ (t : Tables) (c : Collector) (bytes room : List ℕ) where
 
   -- or the call changes nothing
   pub call_touches_nothing : (why : Refusal) → replayed fitting bytes ≡ stops why 0 untouched
-      → traced t c bytes room ≡ record { replay = record { ending = Stopped why 0; events = 0; collector = c }; tables = t; answers = room }
+      → traced t c bytes room ≡ record { replay = record { ending = refused_at why 0; events = 0; collector = c }; tables = t; answers = room }
   unfolding traced traced_by put
   call_touches_nothing why stopped = ap (traced_by t c room) stopped
 

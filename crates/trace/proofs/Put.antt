@@ -1,24 +1,20 @@
 -- Lines put into a caller's slice, one after another.
---     put_from              lines put behind so many others
 --     Puts                  one line more is put
 --     put_here, put_past    where there is room for it, and where there is none
 --     put_all               no line more
+--     put_one, put_nowhere  the number and value of one answer, where there is room and where there is none
+--     put_then              one answer, and then the others
 -- Assumes nothing.
 use Prim.Native.Nat.{ℕ, zero, suc, ◌+◌, ◌*◌, ◌/◌, ◌<◌, ◌≤◌}
-use mathlib.Core.Path.{◌≡◌, refl, ap, ◌∙◌}
+use mathlib.Core.Path.{◌≡◌, refl, sym, ap, ◌∙◌}
 use mathlib.Core.List.{List, [], ◌∷◌}
 use native.Mathlib.Omega.{arith}
 use native.Mathlib.Numerals.{add-one}
 use lib.ListN.{length, set, length-set}
-use Rattle.trace.specs.Replay.{Line}
-use Rattle.trace.specs.Stretch.{put}
-
--- behind the numbers and values of so many
-unfoldable pub put_from : ℕ → List ℕ → List Line → List ℕ
-put_from zero room lines = put room lines
-put_from (suc i) [] lines = []
-put_from (suc i) (a ∷ []) lines = a ∷ []
-put_from (suc i) (a ∷ b ∷ room) lines = a ∷ b ∷ put_from i room lines
+use Rattle.rules.specs.declared.Answer.{Answer}
+use Rattle.rules.specs.Reply.{number, value}
+use Rattle.trace.specs.Replay.{Line, line_of}
+use Rattle.trace.specs.Stretch.{put, put_from, put_answer}
 
 pub put_all : (i : ℕ) (room : List ℕ) → put_from i room [] ≡ room
 unfolding put_from put
@@ -71,3 +67,35 @@ module _ (i : ℕ) {room stored : List ℕ} (line : Line) where
 
   pub put_past : length room / 2 ≤ i → stored ≡ room → Puts i room stored line
   put_past past same = record { long = ap length same; then = λ lines. rw (same, add-one) (no_room i room line lines (omega arith)) }
+
+-- ---- one answer after another
+
+pub put_one : (i : ℕ) (room : List ℕ) (x : Answer) → i * 2 + 1 < length room → set (set room (i * 2) (number x)) (i * 2 + 1) (value x) ≡ put_answer i room x
+put_one i room x here =
+    let line = line_of 0 x in
+    rw (← (twice_is i), add-one (twice i)) (sym (has_room i room line [] (omega (arith, twice_is i)) ∙ put_all (suc i) _))
+
+pub put_nowhere : (i : ℕ) (room : List ℕ) (x : Answer) → length room ≤ i * 2 + 1 → room ≡ put_answer i room x
+put_nowhere i room x past = sym (no_room i room (line_of 0 x) [] past ∙ put_all (suc i) room)
+
+line_put : (i : ℕ) (room : List ℕ) (line : Line) (lines : List Line) → put_from i room (line ∷ lines) ≡ put_from (suc i) (put_from i room (line ∷ [])) lines
+unfolding put_from put
+line_put zero [] line lines = refl
+line_put zero (a ∷ []) line lines = refl
+line_put zero (a ∷ b ∷ room) line lines = refl
+line_put (suc i) [] line lines = refl
+line_put (suc i) (a ∷ []) line lines = refl
+line_put (suc i) (a ∷ b ∷ room) line lines = ap (λ (xs : List ℕ). a ∷ b ∷ xs) (line_put i room line lines)
+
+-- the first of some lines, whatever its step
+same_line : (i step : ℕ) (room : List ℕ) (x : Answer) (lines : List Line) → put_from i room (line_of step x ∷ lines) ≡ put_from i room (line_of 0 x ∷ lines)
+unfolding put_from put
+same_line zero step [] x lines = refl
+same_line zero step (a ∷ []) x lines = refl
+same_line zero step (a ∷ b ∷ room) x lines = refl
+same_line (suc i) step [] x lines = refl
+same_line (suc i) step (a ∷ []) x lines = refl
+same_line (suc i) step (a ∷ b ∷ room) x lines = ap (λ (xs : List ℕ). a ∷ b ∷ xs) (same_line i step room x lines)
+
+pub put_then : (i step : ℕ) (room : List ℕ) (x : Answer) (lines : List Line) → put_from i room (line_of step x ∷ lines) ≡ put_from (suc i) (put_answer i room x) lines
+put_then i step room x lines = same_line i step room x lines ∙ line_put i room (line_of 0 x) lines

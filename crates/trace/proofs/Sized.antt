@@ -1,8 +1,8 @@
 -- A trace behind its sizes field.
---     fresh-refused     the lent tables have other lengths: nothing is touched
---     Started, fresh_starts, started_known     else they are those of a fresh pool
+--     fresh-refused, inexact, untold     the lent tables have other lengths: nothing is touched, and nothing is told
+--     Started, fresh_starts, started_known, started_pool     else they are those of a fresh pool
 --     length_lines, free_written     how many lines the events give; the free records, counted in the table of a pool
---     sized-ends        the events done, and how the trace stands behind them, are the whole of it
+--     sized-ends, sized_told        the events done, and how the trace stands behind them, are the whole of it; and what is told of them
 -- Assumes nothing.
 use Prim.Native.Nat.{ℕ, suc}
 use mathlib.Core.Path.{◌≡◌, refl, sym, ap, ◌∙◌, subst}
@@ -24,7 +24,7 @@ use Rattle.laws.proofs.Runs.{run_keeps}
 use Rattle.soundness.proofs.Kept.{fresh_is_sound, event_keeps_sound}
 use Rattle.tables.specs.Tables.{Tables}
 use Rattle.tables.specs.Bits.{words_of}
-use Rattle.tables.specs.Lie.{tables_of}
+use Rattle.tables.specs.Lie.{pool_of, tables_of}
 use Rattle.tables.specs.Known.{Known}
 use Rattle.tables.specs.Event.{Called, written}
 use Rattle.tables.proofs.Packed.{length-words_of, packed_words, marks_words}
@@ -33,13 +33,13 @@ use Rattle.fresh.specs.Fits.{is_exact, refused_on}
 use Rattle.fresh.specs.Fresh.{made_fresh}
 use Rattle.fresh.specs.Free.{free_in}
 use Rattle.fresh.proofs.Free.{free_marks_lem}
-use Rattle.trace.specs.declared.Ending.{Ending}
-use Rattle.trace.specs.declared.Ending.TheVariants.{Stopped}
 use Rattle.trace.specs.declared.Stood.{Stood}
-use Rattle.trace.specs.Replay.{untouched, stands, stops, with_lines}
+use Rattle.fields.specs.Field.{refused_at}
+use Rattle.trace.specs.Replay.{Ending, untouched, stands, stops, with_lines}
 use Rattle.trace.specs.Stretch.{behind, stretch, lines_behind, put, RanOn, ran_of, ran_on}
 use Rattle.trace.specs.Stand.{stand_behind, ending_of}
 use Rattle.trace.specs.Traced.{Traced, traced_by, sized}
+use Rattle.trace.specs.Told.{Telling, told_by, told_on, told_sized}
 use Rattle.trace.proofs.Along.{goes_on, stretch-ends, goes-stretch}
 use Rattle.trace.proofs.Behind.{goes_last}
 
@@ -58,20 +58,30 @@ module _ (s : Sizes) (t : Tables) (c : Collector) (range : in_range s ≡ true) 
   fresh_made = ap (λ (b : Bool). made s t c (b && is_exact s t)) (sym range) ∙ call
 
   pub fresh-refused : (why : Refusal) → y.answer ≡ Refused why → (bytes : List ℕ) (place : ℕ) (room : List ℕ)
-      → sized s t c bytes place room ≡ record { replay = record { ending = Stopped why 0; events = 0; collector = c }; tables = y.tables; answers = room }
+      → sized s t c bytes place room ≡ record { replay = record { ending = refused_at why 0; events = 0; collector = c }; tables = y.tables; answers = room }
   unfolding made written sized traced_by put
   fresh-refused why refused bytes place room = by_exact (is_exact s t) fresh_made
     where
       by_exact : (b : Bool) → made s t c b ≡ y
           → traced_by t c room (cond b (goes_on (λ s. is_exact s t) bytes place (behind 0) (stands s (fresh s))) (stops WrongSize 0 untouched))
-          ≡ record { replay = record { ending = Stopped why 0; events = 0; collector = c }; tables = y.tables; answers = room }
+          ≡ record { replay = record { ending = refused_at why 0; events = 0; collector = c }; tables = y.tables; answers = room }
       by_exact true e =
           let other : Fresh ≡ Refused why = ap (λ (z : Called). z.answer) e ∙ refused in
           absurd (let z : ◌≡◌ {A = ℕ} 0 1 = cc in omega arith)
       by_exact false e =
           let same : Refused WrongSize ≡ Refused why = ap (λ (z : Called). z.answer) e ∙ refused in
           let because : WrongSize ≡ why = cc in
-          λ j. record { replay = record { ending = Stopped (because j) 0; events = 0; collector = c }; tables = (e j).tables; answers = room }
+          λ j. record { replay = record { ending = refused_at (because j) 0; events = 0; collector = c }; tables = (e j).tables; answers = room }
+
+  pub inexact : (why : Refusal) → y.answer ≡ Refused why → is_exact s t ≡ false
+  unfolding made written
+  inexact why refused = by_exact (is_exact s t) refl fresh_made
+    where
+      by_exact : (b : Bool) → is_exact s t ≡ b → made s t c b ≡ y → is_exact s t ≡ false
+      by_exact true exact e =
+          let other : Fresh ≡ Refused why = ap (λ (z : Called). z.answer) e ∙ refused in
+          absurd (let z : ◌≡◌ {A = ℕ} 0 1 = cc in omega arith)
+      by_exact false exact e = exact
 
   pub fresh_starts : ((why : Refusal) → y.answer ≡ Refused why → ⊥) → Started s t y
   unfolding made written
@@ -80,6 +90,10 @@ module _ (s : Sizes) (t : Tables) (c : Collector) (range : in_range s ≡ true) 
       by_exact : (b : Bool) → is_exact s t ≡ b → made s t c b ≡ y → Started s t y
       by_exact true exact e = record { exact = exact; lies = sym e }
       by_exact false exact e = absurd (taken WrongSize (ap (λ (z : Called). z.answer) (sym e)))
+
+pub untold : {X : Type 0} (tell : Telling X) (s : Sizes) (t : Tables) (bytes : List ℕ) (place : ℕ) (x : X) → is_exact s t ≡ false → x ≡ told_sized tell s t bytes place x
+unfolding told_sized
+untold tell s t bytes place x inexact = ap (λ (b : Bool). cond b (told_by tell s (fresh s) x (stretch bytes place 0).events) x) (sym inexact)
 
 pub length_lines : (s : Sizes) (p : Pool) (step : ℕ) (events : List Event) → length (lines_behind step (answers s p events)) ≡ length events
 unfolding lines_behind answers
@@ -99,13 +113,25 @@ module _ {s : Sizes} {t : Tables} {y : Called} (range : in_range s ≡ true) (st
   unfolding written
   started_known = subst (λ (z : Called). Known s z.tables z.collector) (sym started.lies) (sound_known s range (fresh s) (fresh_is_sound s))
 
+  pub started_pool : pool_of s y.tables y.collector ≡ fresh s
+  unfolding written
+  started_pool =
+      let sound = fresh_is_sound s in
+      ap (λ (z : Called). pool_of s z.tables z.collector) started.lies ∙ pool_of_tables s (fresh s) sound.shaped sound.log_length sound.history_length
+
+  pub sized_told : {X : Type 0} (tell : Telling X) (bytes : List ℕ) (place : ℕ) (x : X) → told_on tell s y.tables y.collector bytes place 0 x ≡ told_sized tell s t bytes place x
+  unfolding told_sized
+  sized_told tell bytes place x =
+      let events = (stretch bytes place 0).events in
+      ap (λ (p : Pool). told_by tell s p x events) started_pool ∙ ap (λ (b : Bool). cond b (told_by tell s (fresh s) x events) x) (sym started.exact)
+
   module _ (c : Collector) (bytes : List ℕ) (place : ℕ) (room : List ℕ) where
     -- how the trace stands behind the events that were done
-    abbrev standing : RanOn → Stood
+    abbrev pub standing : RanOn → Stood
     standing x = stand_behind true (free_in s.n x.tables.used) x.ran.collector.closed bytes x.ran.next (behind x.ran.step)
 
     -- the whole, from that
-    abbrev whole : RanOn → Traced
+    abbrev pub whole : RanOn → Traced
     whole x =
         record {
           replay = record { ending = ending_of (standing x).stand x.ran.next; events = x.ran.events; collector = x.ran.collector };
@@ -113,7 +139,7 @@ module _ {s : Sizes} {t : Tables} {y : Called} (range : in_range s ≡ true) (st
           answers = x.answers;
         }
 
-    replay_runs : sized s t c bytes place room ≡ whole (ran_of s (fresh s) bytes place 0 room)
+    pub replay_runs : sized s t c bytes place room ≡ whole (ran_of s (fresh s) bytes place 0 room)
     unfolding sized traced_by
     replay_runs =
         let takes : Sizes → Bool = (λ s. is_exact s t) in
@@ -137,15 +163,8 @@ module _ {s : Sizes} {t : Tables} {y : Called} (range : in_range s ≡ true) (st
         })
 
     sized-runs : {x : RanOn} → ran_on s y.tables y.collector bytes place 0 room ≡ x → sized s t c bytes place room ≡ whole x
-    unfolding ran_on written
-    sized-runs {x} run =
-        let sound = fresh_is_sound s in
-        let back = pool_of_tables s (fresh s) sound.shaped sound.log_length sound.history_length in
-        replay_runs
-        ∙ ap whole
-        (ap (λ (p : Pool). ran_of s p bytes place 0 room) (sym back)
-        ∙ ap (λ (z : Called). ran_on s z.tables z.collector bytes place 0 room) (sym started.lies)
-        ∙ run)
+    unfolding ran_on
+    sized-runs {x} run = replay_runs ∙ ap whole (ap (λ (p : Pool). ran_of s p bytes place 0 room) (sym started_pool) ∙ run)
 
     pub sized-ends : {x : RanOn} {stood : Stood} {ending : Ending}
         → ran_on s y.tables y.collector bytes place 0 room ≡ x

@@ -9,6 +9,7 @@ use mathlib.Core.Bool.{Bool, cond}
 use mathlib.Core.List.{List}
 use native.Mathlib.Omega.{arith}
 use lib.ListN.{length}
+use Rattle.std.specs.Prelude.{Result, Ok, Err}
 use Rattle.rules.specs.declared.Sizes.{Sizes}
 use Rattle.rules.specs.declared.Refusal.TheVariants.{WrongSize, StopsShort}
 use Rattle.rules.specs.Pool.{fresh}
@@ -18,6 +19,7 @@ use Rattle.fields.specs.declared.Stage.TheVariants.{Events, Ended}
 use Rattle.fields.specs.declared.Reader.{Reader}
 use Rattle.fields.specs.declared.Field.TheVariants as field
 use Rattle.fields.specs.declared.Read.{Read}
+use Rattle.fields.specs.declared.RefusedAt.{RefusedAt}
 use Rattle.fields.specs.Field.{read_at}
 use Rattle.trace.specs.Replay.{Left, untouched, stands, Replayed, stops, line_of, with_line, ends, goes}
 use Rattle.trace.specs.Stretch.{Stretch, no_event, with_event, behind, stretch_of, stretch}
@@ -30,8 +32,9 @@ abbrev pub Onward : Type 0
 Onward = ℕ → Reader → Left → Replayed
 
 -- a turn of a replay that then goes on so
-abbrev pub turn : (Sizes → Bool) → Onward → ℕ → Left → Read → Replayed
-turn takes onward place left x =
+abbrev pub turn : (Sizes → Bool) → Onward → ℕ → Left → Result Read RefusedAt → Replayed
+turn takes onward place left (Err e) = stops e.why e.place left
+turn takes onward place left (Ok x) =
     elim x.field [
       | field.Sizes s ↦ cond (takes s) (onward x.next x.reader (stands s (fresh s))) (stops WrongSize place left)
       | field.Event step e ↦
@@ -41,7 +44,6 @@ turn takes onward place left x =
           ]
       | field.End ↦ onward x.next x.reader left
       | field.Nothing ↦ ends place left
-      | field.Refused why at ↦ stops why at left
     ]
 
 module _ (takes : Sizes → Bool) (bytes : List ℕ) where
@@ -51,7 +53,7 @@ module _ (takes : Sizes → Bool) (bytes : List ℕ) where
       → turn takes first place left (read_at bytes place (reader_at stage step)) ≡ turn takes second place left (read_at bytes place (reader_at stage step))
   same_turn first second place step stage left same = by_read (read_at bytes place (reader_at stage step)) stage left (read_comes bytes place step stage)
     where
-      by_read : (x : Read) (stage : Stage) (left : Left) → Comes bytes place step stage x → turn takes first place left x ≡ turn takes second place left x
+      by_read : (x : Result Read RefusedAt) (stage : Stage) (left : Left) → Comes bytes place step stage x → turn takes first place left x ≡ turn takes second place left x
       by_read x stage left (a_refusal why) = refl
       by_read x stage left (the_sizes s next range lies) =
           ap (λ (rest : Replayed). cond (takes s) rest (stops WrongSize place left)) (same next 0 Events (stands s (fresh s)) (omega arith) (omega arith))
@@ -74,14 +76,14 @@ module _ (takes : Sizes → Bool) (bytes : List ℕ) where
 -- ---- a stretch
 
 -- a turn of a stretch that then goes on so
-abbrev pub stretch_turn : (ℕ → ℕ → Stretch) → ℕ → ℕ → Read → Stretch
-stretch_turn onward place step x =
+abbrev pub stretch_turn : (ℕ → ℕ → Stretch) → ℕ → ℕ → Result Read RefusedAt → Stretch
+stretch_turn onward place step (Err e) = no_event place step
+stretch_turn onward place step (Ok x) =
     elim x.field [
       | field.Event n e ↦ with_event e (onward x.next n)
       | field.Sizes s ↦ no_event place step
       | field.End ↦ no_event place step
       | field.Nothing ↦ no_event place step
-      | field.Refused why at ↦ no_event place step
     ]
 
 module _ (bytes : List ℕ) where
@@ -91,7 +93,7 @@ module _ (bytes : List ℕ) where
       → stretch_turn first place step (read_at bytes place (behind step)) ≡ stretch_turn second place step (read_at bytes place (behind step))
   same_stretch first second place step same = by_read (read_at bytes place (behind step)) (read_comes bytes place step Events)
     where
-      by_read : (x : Read) → Comes bytes place step Events x → stretch_turn first place step x ≡ stretch_turn second place step x
+      by_read : (x : Result Read RefusedAt) → Comes bytes place step Events x → stretch_turn first place step x ≡ stretch_turn second place step x
       by_read x (a_refusal why) = refl
       by_read x (an_event e next lies) = ap (with_event e) (same next (suc step) (omega arith) (omega arith))
       by_read x (the_end next lies) = refl

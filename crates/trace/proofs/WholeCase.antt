@@ -1,4 +1,4 @@
--- "Whole case, input in hexadecimal", of document 01: its bytes, the lines that are printed for it, and what specs/Promise.antt says of it, computed by the
+-- "ended_whole case, input in hexadecimal", of document 01: its bytes, the lines that are printed for it, and what specs/Promise.antt says of it, computed by the
 -- definitions.
 -- Assumes nothing.
 use Prim.Native.Nat.{ℕ}
@@ -7,9 +7,8 @@ use mathlib.Core.Bool.{true}
 use mathlib.Core.List.{List, [], ◌∷◌, ◌++◌}
 use Rattle.rules.specs.declared.Event.TheVariants.{Make, Drop, Collect}
 use Rattle.rules.proofs.Starred.{computes}
-use Rattle.trace.specs.declared.Ending.TheVariants.{Whole}
 use Rattle.fields.specs.Field.{payload_of, payload_for, event_at, refusals, decide, taken, field_at, behind_end, read_at}
-use Rattle.trace.specs.Replay.{Line, goes, replayed}
+use Rattle.trace.specs.Replay.{Line, ended_whole, goes, replayed}
 use Rattle.trace.specs.Stretch.{stretch_of, stretch}
 use Rattle.trace.specs.Promise.{events_of, line_at, line_frees}
 
@@ -34,7 +33,7 @@ printed : (replayed (λ s. true) bytes).lines
 unfolding computes collect_at bytes line payload_of payload_for event_at refusals decide taken field_at behind_end read_at goes replayed
 printed = refl
 
-ended : (replayed (λ s. true) bytes).ending ≡ Whole 1 1
+ended : (replayed (λ s. true) bytes).ending ≡ ended_whole 1 1
 unfolding computes collect_at bytes line payload_of payload_for event_at refusals decide taken field_at behind_end read_at goes replayed
 ended = refl
 

@@ -5,7 +5,7 @@
 --     line_at                    the line of an event
 --     line_frees, lines_free     a record is freed, by the line of an event and by the lines of some
 -- Assumes nothing.
-use Rattle.std.specs.Prelude.{ℕ, ◌≡◌, Bool, true, false, ◌||◌, List, [], ◌∷◌, eqb, get_or}
+use Rattle.std.specs.Prelude.{ℕ, ◌≡◌, Bool, true, false, ◌||◌, List, [], ◌∷◌, eqb, get_or, Ok, Err}
 use Rattle.rules.specs.declared.Sizes.{Sizes}
 use Rattle.rules.specs.declared.RecordNumber.{RecordNumber}
 use Rattle.rules.specs.declared.Event.{Event}
@@ -15,28 +15,28 @@ use Rattle.rules.specs.Size.{in_range}
 use Rattle.rules.specs.Pool.{fresh}
 use Rattle.rules.specs.Outcome.{answers, after, free_records}
 use Rattle.fields.specs.declared.Field.TheVariants as field
+use Rattle.fields.specs.declared.Read.{Read}
 use Rattle.fields.specs.Field.{read_at}
-use Rattle.trace.specs.declared.Ending.TheVariants.{Whole}
-use Rattle.trace.specs.Replay.{Line, untouched, stands, stops, at_start, replayed}
+use Rattle.trace.specs.Replay.{Line, ended_whole, untouched, stands, stops, at_start, replayed}
 use Rattle.trace.specs.Stretch.{stretch, lines_behind}
 
 -- ---- a run
 
 -- up to the first field behind the sizes that is none
 unfoldable pub events_of : List ℕ → List Event
-events_of bytes = (stretch bytes (read_at bytes 0 at_start).next 0).events
+events_of bytes = (stretch bytes (elim (read_at bytes 0 at_start) [ Ok x ↦ x.next | Err e ↦ e.place ]) 0).events
 
 pub record Run (takes : Sizes → Bool) (bytes : List ℕ) (s : Sizes) : Type 0 where
   -- the first field says the sizes, which are in range and taken
-  pub first : (read_at bytes 0 at_start).field ≡ field.Sizes s
+  pub first : (x : Read) × (read_at bytes 0 at_start ≡ Ok x) × (x.field ≡ field.Sizes s)
   pub range : in_range s ≡ true
   pub taken : takes s ≡ true
   -- each event has its line, and the pool is what they left
   pub lines : (replayed takes bytes).lines ≡ lines_behind 0 (answers s (fresh s) (events_of bytes))
   pub left : (replayed takes bytes).left ≡ stands s (after s (fresh s) (events_of bytes))
   -- "After a whole trace it prints `end`, how many records are free, the closed-cycle number"
-  pub free : (free closed : ℕ) → (replayed takes bytes).ending ≡ Whole free closed → free ≡ free_records (after s (fresh s) (events_of bytes))
-  pub closed : (free closed : ℕ) → (replayed takes bytes).ending ≡ Whole free closed → closed ≡ (after s (fresh s) (events_of bytes)).collector.closed
+  pub free : (free closed : ℕ) → (replayed takes bytes).ending ≡ ended_whole free closed → free ≡ free_records (after s (fresh s) (events_of bytes))
+  pub closed : (free closed : ℕ) → (replayed takes bytes).ending ≡ ended_whole free closed → closed ≡ (after s (fresh s) (events_of bytes)).collector.closed
 
 pub data Shown (takes : Sizes → Bool) (bytes : List ℕ) : Type 0 where
   a_run : (s : Sizes) → Run takes bytes s → Shown takes bytes

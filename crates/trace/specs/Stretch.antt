@@ -2,9 +2,10 @@
 --     Stretch, stretch      the events from a place on, up to the first field that is none
 --     lines_behind          their lines
 --     put                   their numbers and values, in a caller's slice
+--     put_from, put_answer     behind those of so many; those of one answer
 --     ran_of, ran_on        what doing them answers and leaves, from a pool and on lent tables
 -- Assumes nothing.
-use Rattle.std.specs.Prelude.{ℕ, zero, suc, List, [], ◌∷◌, length}
+use Rattle.std.specs.Prelude.{ℕ, zero, suc, List, [], ◌∷◌, length, Ok, Err}
 use Rattle.rules.specs.declared.Sizes.{Sizes}
 use Rattle.rules.specs.declared.Event.{Event}
 use Rattle.rules.specs.declared.Answer.{Answer}
@@ -16,7 +17,6 @@ use Rattle.tables.specs.Lie.{pool_of, tables_of}
 use Rattle.fields.specs.declared.Stage.TheVariants.{Events}
 use Rattle.fields.specs.declared.Reader.{Reader}
 use Rattle.fields.specs.declared.Field.TheVariants as field
-use Rattle.fields.specs.declared.Read.{Read}
 use Rattle.fields.specs.Field.{read_at}
 use Rattle.trace.specs.declared.Ran.{Ran}
 use Rattle.trace.specs.Replay.{Line, line_of}
@@ -41,13 +41,14 @@ behind step = record { stage = Events; step = step }
 unfoldable pub stretch_of : ℕ → List ℕ → ℕ → ℕ → Stretch
 stretch_of zero bytes place step = no_event place step
 stretch_of (suc most) bytes place step =
-    let x : Read = read_at bytes place (behind step) in
-    elim x.field [
-      | field.Event n e ↦ with_event e (stretch_of most bytes x.next n)
-      | field.Sizes s ↦ no_event place step
-      | field.End ↦ no_event place step
-      | field.Nothing ↦ no_event place step
-      | field.Refused why at ↦ no_event place step
+    elim (read_at bytes place (behind step)) [
+      | Err e ↦ no_event place step
+      | Ok x ↦ elim x.field [
+        | field.Event n e ↦ with_event e (stretch_of most bytes x.next n)
+        | field.Sizes s ↦ no_event place step
+        | field.End ↦ no_event place step
+        | field.Nothing ↦ no_event place step
+      ]
     ]
 
 -- an event has more than one byte, so that there are fewer of them than bytes, and one turn more finds that none follows
@@ -65,6 +66,17 @@ put room [] = room
 put [] (line ∷ lines) = []
 put (a ∷ []) (line ∷ lines) = a ∷ []
 put (a ∷ b ∷ room) (line ∷ lines) = line.number ∷ line.value ∷ put room lines
+
+-- behind the numbers and values of so many
+unfoldable pub put_from : ℕ → List ℕ → List Line → List ℕ
+put_from zero room lines = put room lines
+put_from (suc i) [] lines = []
+put_from (suc i) (a ∷ []) lines = a ∷ []
+put_from (suc i) (a ∷ b ∷ room) lines = a ∷ b ∷ put_from i room lines
+
+-- of one answer, whatever its step
+abbrev pub put_answer : ℕ → List ℕ → Answer → List ℕ
+put_answer i room x = put_from i room (line_of 0 x ∷ [])
 
 -- what doing a stretch answers, and all that it leaves
 pub record RanOn : Type 0 where

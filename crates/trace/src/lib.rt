@@ -1,30 +1,40 @@
 // Whole traces on lent tables.
 //     replay_trace    a whole trace: starts fresh, and checks nothing again
-// Inner (decision 4 of docs/DECISIONS.md): run_events, the events that stand one after another in a trace; stand_behind, how the trace stands behind them;
-// ending_of, how a whole trace ends; replay_sized, a trace behind its sizes field.
+// Inner (decision 4 of docs/DECISIONS.md): run_events, the events that stand one after another in a trace, and trace_told, a whole trace, each told to whoever is to be
+// told of each event (teller); stand_behind, how the trace stands behind them; ending_of, how a whole trace ends; stops, one that stops before its first event; trace_sized,
+// a trace behind its sizes field.
 #![tactic(auto)]
 
-ghost use Rattle.std.specs.Prelude.{◌≡◌, true};
+pub mod teller;
+
+ghost use Rattle.std.specs.Prelude.{◌≡◌, true, [], Err};
 ghost use Rattle.rules.specs.Size.{in_range};
-ghost use Rattle.tables.specs.Tables.{lent};
+ghost use Rattle.tables.specs.Lent.{contents, SameTables};
 ghost use Rattle.tables.specs.Known.{Known};
 ghost use Rattle.fresh.specs.Free.{free_in};
 ghost use Rattle.trace.specs.Stretch.{ran_on};
-ghost use Rattle.trace.specs.Stand.{stand_behind, ending_of};
+ghost use Rattle.trace.specs.Stand.{ended, stand_behind, ending_of};
 ghost use Rattle.trace.specs.Traced.{traced, sized};
+ghost use Rattle.trace.specs.Told.{told_on, told_sized, told_traced};
 
+use cycles::turn::Turn;
 use events::event_known;
-use fields::{Field, Reader, Stage, event_at, event_size, read_at};
-use fresh::{free_records, fresh};
-use reply::{number_of, value_of};
+use fields::{Field, Reader, RefusedAt, event_at, event_size, read_at};
+use fresh::fresh;
 use rules::{Answer, Collector, Refusal, Sizes};
+use tables::lent::LentTables;
+use tables::mark::count_off;
+use teller::{Answers, Teller};
 
-// How a replay ended: the whole trace, with how many records are free and the closed-cycle number; or where it stopped, and why.
+// A whole trace's end: how many records are free, and the closed-cycle number.
 #[derive(Clone, Copy)]
-pub enum Ending {
-    Whole(u16, u16),
-    Stopped(Refusal, usize),
+pub struct Whole {
+    pub free: u16,
+    pub closed: u16,
 }
+
+// How a replay ended: the whole trace; or where it stopped, and why.
+pub type Ending = Result<Whole, RefusedAt>;
 
 // What doing the events of a stretch answers: the place behind them, the last step number, how many they are, and the collector's record.
 #[derive(Clone, Copy)]
@@ -43,78 +53,71 @@ pub struct Replay {
     pub collector: Collector,
 }
 
-// How a trace stands behind its events, of which a part has been read: more has to be read, or it has ended.
-#[derive(Clone, Copy)]
-pub enum Stand {
-    Waits,
-    Ended(Ending),
-}
-
-// That, the place of the first byte that is still needed, and what may come there.
+// How a trace stands behind its events, of which a part has been read: it has ended so, or more has to be read; the place of the first byte that is still needed, and
+// what may come there.
 #[derive(Clone, Copy)]
 pub struct Stood {
-    pub stand: Stand,
+    pub stand: Option<Ending>,
     pub next: usize,
     pub reader: Reader,
 }
 
-// The events that stand one after another from a place on, up to the first field that is none, on a pool that is known to be sound. Each event's number and value
-// are put into `answers` in turn, as far as there is room. Inner.
-pub fn run_events(
+impl Stood {
+    fn ended(ending: Ending, next: usize, reader: Reader) -> Stood
+        ensures { result ≡ ended ending next reader }
+    {
+        Stood {
+            stand: Some(ending),
+            next,
+            reader,
+        }
+    }
+}
+
+// The events that stand one after another from a place on, up to the first field that is none, on a pool that is known to be sound. The teller is told of each. Inner.
+pub fn run_events<T: Teller>(
     s: Sizes,
-    used: &mut [u64],
-    counts: &mut [u16],
-    held: &mut [u64],
-    candidates: &mut [u64],
-    makers: &mut [u16],
-    values: &mut [u16],
-    changed: &mut [u64],
-    registers: &mut [u16],
-    snoops: &mut [u16],
-    logs: &mut [u16],
-    history: &mut [u16],
-    lengths: &mut [u16],
+    t: &mut LentTables,
     c: Collector,
     bytes: &[u8],
     place: usize,
     step: u32,
-    answers: &mut [u16],
+    teller: &mut T,
 ) -> Ran
-    requires { Known s (lent used.old counts.old held.old candidates.old makers.old values.old changed.old registers.old snoops.old logs.old history.old lengths.old) c }
-    ensures { ran_on s (lent used.old counts.old held.old candidates.old makers.old values.old changed.old registers.old snoops.old logs.old history.old lengths.old) c bytes.now place step answers.old
-        ≡ record { ran = result; tables = lent used.new counts.new held.new candidates.new makers.new values.new changed.new registers.new snoops.new logs.new history.new lengths.new; answers = answers.new } }
+    requires known { Known s (contents t.old) c }
+    requires fits { T.fits teller.old step }
+    ensures ran { ran_on s (contents t.old) c bytes.now place step [] ≡ record { ran = result; tables = contents t.new; answers = [] } }
+    ensures told { teller.new ≡ told_on T.told s (contents t.old) c bytes.now place step teller.old }
+    ensures fits { T.fits teller.new result.step }
+    ensures same { SameTables t.old t.new }
 {
-    let room = answers.len() / 2;
-    let mut next = place;
-    let mut last = step;
-    let mut events = 0;
-    let mut collector = c;
-    loop {
-        let size = event_size(bytes, next, last);
-        if size == 0 {
-            break;
-        }
-        let e = event_at(bytes[next], bytes, next + 7);
-        let y = event_known(
-            s, used, counts, held, candidates, makers, values, changed, registers, snoops, logs,
-            history, lengths, collector, e,
-        );
-        if events < room {
-            let answer = y.answer;
-            answers[events * 2] = number_of(answer);
-            answers[events * 2 + 1] = value_of(answer);
-        }
-        collector = y.collector;
-        next += size;
-        last += 1;
-        events += 1;
+    let workers = usize::from(s.w);
+    let mut ran = Ran {
+        next: place,
+        step,
+        events: 0,
+        collector: c,
+    };
+    while let Some(size) = event_size(bytes, ran.next, ran.step) {
+        let e = event_at(bytes[ran.next], bytes, ran.next + 7);
+        let had = t.lengths[workers];
+        let done = event_known(s, t, ran.collector, e);
+        let turn = Turn {
+            before: ran.collector.phase,
+            after: done.collector.phase,
+            had,
+            has: t.lengths[workers],
+            answer: done.answer,
+        };
+        teller.tell(ran.step, turn, t.to_read().counts);
+        ran = Ran {
+            next: ran.next + size,
+            step: ran.step + 1,
+            events: ran.events + 1,
+            collector: done.collector,
+        };
     }
-    Ran {
-        next,
-        step: last,
-        events,
-        collector,
-    }
+    ran
 }
 
 // How a trace stands behind its events: at the end field and nothing more behind it, or at what is refused. Where fewer than 13 bytes are left and more may come
@@ -130,162 +133,124 @@ pub fn stand_behind(
 ) -> Stood
     ensures { result ≡ stand_behind last (free_in n used.now) closed bytes.now place reader }
 {
-    let mut fields: usize = 2;
     let mut next = place;
     let mut now = reader;
-    while fields > 0 {
+    // Two fields may still come: the end, and then what stands behind it, which may only be nothing. Two calls would say the same twice.
+    for _ in 0..2u8 {
         if !last & (bytes.len() < 13 || bytes.len() - 13 < next) {
             return Stood {
-                stand: Stand::Waits,
+                stand: None,
                 next,
                 reader: now,
             };
         }
-        let x = read_at(bytes, next, now);
-        let field = x.field;
-        match field {
-            Field::End => {
-                next = x.next;
-                now = x.reader;
-                fields -= 1;
-            }
-            Field::Nothing => {
-                return Stood {
-                    stand: Stand::Ended(Ending::Whole(free_records(n, used) as u16, closed)),
-                    next,
-                    reader: now,
-                };
-            }
-            Field::Refused(why, at) => {
-                return Stood {
-                    stand: Stand::Ended(Ending::Stopped(why, at)),
-                    next,
-                    reader: now,
-                };
-            }
-            _ => {
-                fields = 0;
-            }
+        match read_at(bytes, next, now) {
+            Err(e) => return Stood::ended(Err(e), next, now),
+            Ok(x) => match x.field {
+                Field::End => {
+                    next = x.next;
+                    now = x.reader;
+                }
+                Field::Nothing => {
+                    let free = count_off(used, n);
+                    return Stood::ended(Ok(Whole { free, closed }), next, now);
+                }
+                _ => break,
+            },
         }
     }
-    Stood {
-        stand: Stand::Ended(Ending::Stopped(Refusal::WrongTag, next)),
-        next,
-        reader: now,
-    }
+    let other = RefusedAt {
+        why: Refusal::WrongTag,
+        place: next,
+    };
+    Stood::ended(Err(other), next, now)
 }
 
 // How a trace ends that stands so behind its last byte. It waits for nothing there; were it to, it would stop short. Inner.
-pub fn ending_of(stand: Stand, place: usize) -> Ending
+pub fn ending_of(stand: Option<Ending>, place: usize) -> Ending
     ensures { result ≡ ending_of stand place }
 {
-    match stand {
-        Stand::Waits => Ending::Stopped(Refusal::StopsShort, place),
-        Stand::Ended(ending) => ending,
+    stand.unwrap_or(Err(RefusedAt {
+        why: Refusal::StopsShort,
+        place,
+    }))
+}
+
+// A trace that stops before its first event.
+fn stops(e: RefusedAt, c: Collector) -> Replay
+    ensures { result ≡ record { ending = Err e; events = 0; collector = c } }
+{
+    Replay {
+        ending: Err(e),
+        events: 0,
+        collector: c,
     }
 }
 
 // A trace behind its sizes field: the pool is made fresh, if the lent tables have these sizes' lengths, and the events are done.
-fn replay_sized(
+fn trace_sized<T: Teller>(
     s: Sizes,
-    used: &mut [u64],
-    counts: &mut [u16],
-    held: &mut [u64],
-    candidates: &mut [u64],
-    makers: &mut [u16],
-    values: &mut [u16],
-    changed: &mut [u64],
-    registers: &mut [u16],
-    snoops: &mut [u16],
-    logs: &mut [u16],
-    history: &mut [u16],
-    lengths: &mut [u16],
+    t: &mut LentTables,
     c: Collector,
     bytes: &[u8],
     place: usize,
-    answers: &mut [u16],
+    teller: &mut T,
 ) -> Replay
-    requires { in_range s ≡ true }
-    ensures { sized s (lent used.old counts.old held.old candidates.old makers.old values.old changed.old registers.old snoops.old logs.old history.old lengths.old) c bytes.now place answers.old
-        ≡ record { replay = result; tables = lent used.new counts.new held.new candidates.new makers.new values.new changed.new registers.new snoops.new logs.new history.new lengths.new; answers = answers.new } }
+    requires range { in_range s ≡ true }
+    requires fits { T.fits teller.old 0 }
+    ensures done { sized s (contents t.old) c bytes.now place [] ≡ record { replay = result; tables = contents t.new; answers = [] } }
+    ensures told { teller.new ≡ told_sized T.told s (contents t.old) bytes.now place teller.old }
+    ensures same { SameTables t.old t.new }
 {
-    let made = fresh(
-        s, used, counts, held, candidates, makers, values, changed, registers, snoops, logs,
-        history, lengths, c,
-    );
-    let answer = made.answer;
-    let start = made.collector;
-    if let Answer::Refused(why) = answer {
-        return Replay {
-            ending: Ending::Stopped(why, 0),
-            events: 0,
-            collector: c,
-        };
+    let made = fresh(s, t, c);
+    if let Answer::Refused(why) = made.answer {
+        return stops(RefusedAt { why, place: 0 }, c);
     }
-    let ran = run_events(
-        s, used, counts, held, candidates, makers, values, changed, registers, snoops, logs,
-        history, lengths, start, bytes, place, 0, answers,
-    );
-    let collector = ran.collector;
-    let reader = Reader {
-        stage: Stage::Events,
-        step: ran.step,
-    };
-    let stood = stand_behind(s.n, used, collector.closed, bytes, ran.next, reader, true);
-    let stand = stood.stand;
+    let ran = run_events(s, t, made.collector, bytes, place, 0, teller);
+    let reader = Reader::behind(ran.step);
+    let closed = ran.collector.closed;
+    let stood = stand_behind(s.n, t.to_read().used, closed, bytes, ran.next, reader, true);
     Replay {
-        ending: ending_of(stand, ran.next),
+        ending: ending_of(stood.stand, ran.next),
         events: ran.events,
-        collector,
+        collector: ran.collector,
+    }
+}
+
+// A whole trace, as `replay_trace` replays it. The teller is told of each event. Inner.
+pub fn trace_told<T: Teller>(
+    t: &mut LentTables,
+    c: Collector,
+    bytes: &[u8],
+    teller: &mut T,
+) -> Replay
+    requires { T.fits teller.old 0 }
+    ensures done { traced (contents t.old) c bytes.now [] ≡ record { replay = result; tables = contents t.new; answers = [] } }
+    ensures told { teller.new ≡ told_traced T.told (contents t.old) bytes.now teller.old }
+    ensures same { SameTables t.old t.new }
+{
+    match read_at(bytes, 0, Reader::FIRST) {
+        Err(e) => stops(e, c),
+        Ok(first) => match first.field {
+            Field::Sizes(s) => trace_sized(s, t, c, bytes, first.next, teller),
+            _ => stops(
+                RefusedAt {
+                    why: Refusal::WrongTag,
+                    place: 0,
+                },
+                c,
+            ),
+        },
     }
 }
 
 // A whole trace on lent tables: any bytes, any tables, any collector's record. An accepted sizes field makes the pool fresh; it is accepted if the lent tables have
 // its lengths. Each event's number and value are put into `answers` in turn, as far as there is room. Two wrong programs that the contract rules out: one that
 // refuses every trace, and one that does not make the pool fresh.
-pub fn replay_trace(
-    used: &mut [u64],
-    counts: &mut [u16],
-    held: &mut [u64],
-    candidates: &mut [u64],
-    makers: &mut [u16],
-    values: &mut [u16],
-    changed: &mut [u64],
-    registers: &mut [u16],
-    snoops: &mut [u16],
-    logs: &mut [u16],
-    history: &mut [u16],
-    lengths: &mut [u16],
-    c: Collector,
-    bytes: &[u8],
-    answers: &mut [u16],
-) -> Replay
-    ensures { traced (lent used.old counts.old held.old candidates.old makers.old values.old changed.old registers.old snoops.old logs.old history.old lengths.old) c bytes.now answers.old
-        ≡ record { replay = result; tables = lent used.new counts.new held.new candidates.new makers.new values.new changed.new registers.new snoops.new logs.new history.new lengths.new; answers = answers.new } }
+pub fn replay_trace(t: &mut LentTables, c: Collector, bytes: &[u8], answers: &mut [u16]) -> Replay
+    ensures done { traced (contents t.old) c bytes.now answers.old ≡ record { replay = result; tables = contents t.new; answers = answers.new } }
+    ensures same { SameTables t.old t.new }
 {
-    let first = read_at(
-        bytes,
-        0,
-        Reader {
-            stage: Stage::First,
-            step: 0,
-        },
-    );
-    let field = first.field;
-    match field {
-        Field::Sizes(s) => replay_sized(
-            s, used, counts, held, candidates, makers, values, changed, registers, snoops, logs,
-            history, lengths, c, bytes, first.next, answers,
-        ),
-        Field::Refused(why, at) => Replay {
-            ending: Ending::Stopped(why, at),
-            events: 0,
-            collector: c,
-        },
-        _ => Replay {
-            ending: Ending::Stopped(Refusal::WrongTag, 0),
-            events: 0,
-            collector: c,
-        },
-    }
+    let mut teller = Answers { answers, events: 0 };
+    trace_told(t, c, bytes, &mut teller)
 }

@@ -1,7 +1,7 @@
 -- What make, move, drop, load and look do to known tables, where nothing refuses them.
 --     register_takes_lem, register_low     a register takes a record number, and holds one in range
 --     chosen_inside       the record that a make takes is one of the pool's
---     register_taken      what load and look do
+--     Taken, register_taken      what load and look do
 --     made, moved, dropped, loaded, looked     the events
 -- Assumes nothing.
 use Prim.Native.Nat.{ℕ, ◌+◌, ◌-◌, ◌*◌, ◌≤◌, ◌<◌}
@@ -116,14 +116,22 @@ module _ {s : Sizes} {t : Tables} {c : Collector} (known : Known s t c) where
       put_registers (set (set t.registers (s.w * s.r) a) (place w r) a)
       (put_makers (number-set t.makers a (w + 1) some j) (put_used ((mark_record_lem s.n t.used a true known.exact.used known.tables.marked.used chosen_inside ∙ sym (mark_place t.used a (a - 1) true some refl)) j) t))))
 
+  -- what register_takes answers and leaves, of a link
+  abbrev pub Taken : (w r : ℕ) → LinkNumber → RecordNumber → List ℕ → Type 0
+  Taken w r l a registers = (a ≡ record_number (get_or t.values l.0 0)) × (registers ≡ set t.registers (place w r) (get_or t.values l.0 0))
+
   -- a register takes what a link holds
-  pub register_taken : (e : Event) (w r : ℕ) (l : LinkNumber) → outcome s p e ≡ register_takes w r l p → w < s.w → r < s.r
-      → let a : ℕ = get_or t.values l.0 0 in
-      event_on s t c e ≡ record { answer = Loaded (record_number a); collector = c; tables = put_registers (set t.registers (place w r) a) t }
+  register_taken : (e : Event) (w r : ℕ) (l m : LinkNumber) → outcome s p e ≡ register_takes w r m p → l ≡ m → w < s.w → r < s.r
+      → (a : RecordNumber) (registers : List ℕ) → Taken w r l a registers
+      → event_on s t c e ≡ record { answer = Loaded a; collector = c; tables = put_registers registers t }
   unfolding register_takes pool_of
-  register_taken e w r l done k m =
-      done_on_lem known e (register_takes w r l p) _ done (register_takes_lem w r (value_at p l) k m)
-      ∙ (λ j. let a : RecordNumber = value-stands s t c l j in record { answer = Loaded a; collector = c; tables = put_registers (set t.registers (place w r) a.0) t })
+  register_taken e w r l m done same k i a registers takes =
+      done_on_lem known e (register_takes w r m p) _ done (register_takes_lem w r (value_at p m) k i)
+      ∙ (λ j. let x : RecordNumber = value-stands s t c m j in record { answer = Loaded x; collector = c; tables = put_registers (set t.registers (place w r) x.0) t })
+      ∙ (λ j.
+      let x : ℕ = get_or t.values (sym same j).0 0 in
+      record { answer = Loaded (record_number x); collector = c; tables = put_registers (set t.registers (place w r) x) t })
+      ∙ (λ j. record { answer = Loaded (sym takes.0 j); collector = c; tables = put_registers (sym takes.1 j) t })
 
   -- the link of the record in a register
   abbrev link_of : ℕ → ℕ → ℕ → LinkNumber
@@ -135,23 +143,24 @@ module _ {s : Sizes} {t : Tables} {c : Collector} (known : Known s t c) where
 
   pub loaded : (w r q f : ℕ) → has_numbers s w q r f ≡ true
       → (get_or t.registers (place w q) 0 ≡ 0 → ⊥)
-      → let a : ℕ = get_or t.values (link_of w q f).0 0 in
-      event_on s t c (Load w r q f) ≡ record { answer = Loaded (record_number a); collector = c; tables = put_registers (set t.registers (place w r) a) t }
+      → (l : LinkNumber) → l ≡ link_of w q f → (a : RecordNumber) (registers : List ℕ) → Taken w r l a registers
+      → event_on s t c (Load w r q f) ≡ record { answer = Loaded a; collector = c; tables = put_registers registers t }
   unfolding refusals does loads
-  loaded w r q f here some =
+  loaded w r q f here some l same =
       let base = base_stands w q r f here in
       let unempty : eqb (register_at p w q).0 0 ≡ false = ne_eqb (register_at p w q).0 0 (λ e. some (ap (λ (a : RecordNumber). a.0) (sym base) ∙ e)) in
       let at = numbers_there s w q r f here in
-      register_taken (Load w r q f) w r (link_of w q f)
+      register_taken (Load w r q f) w r l (link_of w q f)
       (unrefused known (Load w r q f) (has_worker s w) (has_register s q && has_register s r) (has_link s f) refl here (unempty, tt)
       ∙ ap (λ (a : RecordNumber). register_takes w r (link_number s a f) p) base)
+      same
       at.0.worker
       at.1
 
   pub looked : (w r e : ℕ) → (has_worker s w && has_register s r && has_entry s e) ≡ true
-      → let a : ℕ = get_or t.values (board_number s e).0 0 in
-      event_on s t c (Look w r e) ≡ record { answer = Loaded (record_number a); collector = c; tables = put_registers (set t.registers (place w r) a) t }
+      → (l : LinkNumber) → l ≡ board_number s e → (a : RecordNumber) (registers : List ℕ) → Taken w r l a registers
+      → event_on s t c (Look w r e) ≡ record { answer = Loaded a; collector = c; tables = put_registers registers t }
   unfolding refusals does looks
-  looked w r e here =
+  looked w r e here l same =
       let at = entry_there s w r e here in
-      register_taken (Look w r e) w r (board_number s e) (unrefused known (Look w r e) (has_worker s w) (has_register s r) (has_entry s e) refl here tt) at.0.worker at.0.register
+      register_taken (Look w r e) w r l (board_number s e) (unrefused known (Look w r e) (has_worker s w) (has_register s r) (has_entry s e) refl here tt) same at.0.worker at.0.register

@@ -1,4 +1,5 @@
 -- The worker events that are refused, on known tables.
+--     all_true, both_true                   the numbers of an event are there
 --     no_such_lem, no_such_register         "3 means no such worker. Refusals: 13 register, 14 link, in the order 3, 13, 14 where 3 stood"
 --     load_holds-none, store_holds-none     "4: load or store through a register that holds none"
 --     make_none_free                        "5: make, and no record is free"
@@ -6,14 +7,15 @@
 -- Assumes nothing.
 use Prim.Native.Nat.{ℕ}
 use mathlib.Core.Path.{◌≡◌, refl, sym, ap, ◌∙◌}
-use mathlib.Core.Bool.{Bool, true, false, ◌&&◌, true≢false}
+use mathlib.Core.Bool.{Bool, true, false, ◌&&◌}
 use mathlib.Core.List.{List, [], ◌++◌}
 use borrow.Author.Tests.{eq-eqb}
+use Rattle.std.proofs.Common.{Ok, Err}
 use Rattle.rules.specs.declared.Sizes.{Sizes}
 use Rattle.rules.specs.declared.Event.{Event}
 use Rattle.rules.specs.declared.Event.TheVariants.{Make, Load, Store}
 use Rattle.rules.specs.declared.Refusal.{Refusal}
-use Rattle.rules.specs.declared.Refusal.TheVariants.{HoldsNone, NoneFree}
+use Rattle.rules.specs.declared.Refusal.TheVariants.{NoSuchWorker, NoSuchRegister, NoSuchLink, HoldsNone, NoneFree}
 use Rattle.rules.specs.declared.Answer.TheVariants.{Refused}
 use Rattle.rules.specs.declared.Collector.{Collector}
 use Rattle.rules.specs.Pool.{Pool, register_at}
@@ -27,18 +29,37 @@ use Rattle.tables.specs.Lie.{pool_of}
 use Rattle.tables.specs.Known.{Known}
 use Rattle.tables.specs.Event.{event_on}
 use Rattle.tables.proofs.Done.{refused_on_lem}
-use Rattle.worker.specs.Raw.{wrong_number}
+use Rattle.worker.specs.Raw.{all_there}
 
 -- ---- the tests of an event's numbers, and those behind them
 
+-- all are there, as tests of equal result say; of an event that names no link, both are
+module _ {x y worker registers : Bool} (same-worker : x ≡ worker) (same-registers : y ≡ registers) where
+  pub all_true : {z last : Bool} → z ≡ last → Ok tt ≡ all_there x y z → (worker && registers && last) ≡ true
+  all_true {z} {last} same_last e = (λ j. sym same-worker j && sym same-registers j && sym same_last j) ∙ by_cases x y z e
+    where
+      by_cases : (x y z : Bool) → Ok tt ≡ all_there x y z → (x && y && z) ≡ true
+      by_cases true true true e = refl
+      by_cases true true false e = absurd (cc)
+      by_cases true false z e = absurd (cc)
+      by_cases false y z e = absurd (cc)
+
+  pub both_true : Ok tt ≡ all_there x y true → (worker && registers) ≡ true
+  both_true e = (λ j. sym same-worker j && sym same-registers j) ∙ by_cases x y e
+    where
+      by_cases : (x y : Bool) → Ok tt ≡ all_there x y true → (x && y) ≡ true
+      by_cases true true e = refl
+      by_cases true false e = absurd (cc)
+      by_cases false y e = absurd (cc)
+
 module _ (p : Pool) (tests : List Test) (done : Outcome) where
-  decide_wrong : (worker registers links : Bool) → (worker && registers && links) ≡ false
-      → decide p (no_such worker registers links ++ tests) done ≡ refused (wrong_number worker registers) p
+  decide_wrong : (worker registers links : Bool) (why : Refusal) → Err why ≡ all_there worker registers links
+      → decide p (no_such worker registers links ++ tests) done ≡ refused why p
   unfolding decide
-  decide_wrong true true true off = absurd (true≢false off)
-  decide_wrong true true false off = refl
-  decide_wrong true false links off = refl
-  decide_wrong false registers links off = refl
+  decide_wrong true true true why e = absurd (cc)
+  decide_wrong true true false why e = let same : why ≡ NoSuchLink = cc in ap (λ w. refused w p) (sym same)
+  decide_wrong true false links why e = let same : why ≡ NoSuchRegister = cc in ap (λ w. refused w p) (sym same)
+  decide_wrong false registers links why e = let same : why ≡ NoSuchWorker = cc in ap (λ w. refused w p) (sym same)
 
   decide_there : (worker registers links : Bool) → (worker && registers && links) ≡ true → decide p (no_such worker registers links ++ tests) done ≡ decide p tests done
   unfolding decide
@@ -56,19 +77,18 @@ module _ {s : Sizes} {t : Tables} {c : Collector} (known : Known s t c) where
 
   -- one of the numbers is not there, as tests of equal result say
   pub no_such_lem : (e : Event) {x y z worker registers links : Bool} {tests : List Test} {why : Refusal} → x ≡ worker → y ≡ registers → z ≡ links
-      → refusals s p e ≡ no_such worker registers links ++ tests → (x && y && z) ≡ false → why ≡ wrong_number x y → RefusedOn e why
+      → refusals s p e ≡ no_such worker registers links ++ tests → Err why ≡ all_there x y z → RefusedOn e why
   unfolding outcome
-  no_such_lem e {x} {y} {z} {worker} {registers} {links} {tests} {why} same-worker same-registers same_links h off which =
+  no_such_lem e {x} {y} {z} {worker} {registers} {links} {tests} {why} same-worker same-registers same_links h which =
       refused_on_lem known e why
       (ap (λ ts. decide p ts (does s p e)) h
       ∙ (λ j. decide p (no_such (sym same-worker j) (sym same-registers j) (sym same_links j) ++ tests) (does s p e))
-      ∙ decide_wrong p tests (does s p e) x y z off
-      ∙ ap (λ (w : Refusal). refused w p) (sym which))
+      ∙ decide_wrong p tests (does s p e) x y z why which)
 
   -- the same of an event that names no link
   pub no_such_register : (e : Event) {x y worker registers : Bool} {tests : List Test} {why : Refusal} → x ≡ worker → y ≡ registers
-      → refusals s p e ≡ no_such worker registers true ++ tests → (x && y) ≡ false → why ≡ wrong_number x y → RefusedOn e why
-  no_such_register e same-worker same-registers h off which = no_such_lem e {z = true} same-worker same-registers refl h (ap (λ (b : Bool). b && true) off) which
+      → refusals s p e ≡ no_such worker registers true ++ tests → Err why ≡ all_there x y true → RefusedOn e why
+  no_such_register e same-worker same-registers h which = no_such_lem e {z = true} same-worker same-registers refl h which
 
   module _ (e : Event) (worker registers links : Bool) {tests : List Test} (h : refusals s p e ≡ no_such worker registers links ++ tests) where
     -- all are there, and the other tests decide

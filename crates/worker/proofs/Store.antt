@@ -24,7 +24,6 @@ use Rattle.rules.specs.Pool.{Entry, Pool, with_record, value_at, register_at, sn
 use Rattle.rules.specs.Worker.{added, logged, snooped, link_takes, stores, posts}
 use Rattle.rules.specs.Outcome.{has_worker, has_register, has_link, has_entry, refusals, does, outcome}
 use Rattle.laws.proofs.Change.{logged_keeps, stored_has}
-use Rattle.laws.proofs.Number.{board_inside}
 use Rattle.laws.proofs.Refusals.{has_numbers, numbers_there, entry_there}
 use Rattle.soundness.proofs.NoFullLog.{no_log_is_full}
 use Rattle.tables.specs.Tables.{Tables, put_held, put_values, put_changed, put_logs, put_lengths}
@@ -152,39 +151,41 @@ module _ {s : Sizes} {t : Tables} {c : Collector} (known : Known s t c) where
 
   -- a link takes what a register holds
   pub link_taken_lem : (e : Event) (w : ℕ) (l : LinkNumber) (r : ℕ) → outcome s p e ≡ link_takes w l r p → w < s.w → r < s.r → l.0 < links s
-      → event_on s t c e ≡ record { answer = Stored (record_number (get_or t.values l.0 0)); collector = c; tables = link_taken s w l r t }
+      → (old : RecordNumber) (after : Tables) → old ≡ record_number (get_or t.values l.0 0) → after ≡ link_taken s w l r t
+      → event_on s t c e ≡ record { answer = Stored old; collector = c; tables = after }
   unfolding link_takes snooped link_taken
-  link_taken_lem e w l r done k m inside =
+  link_taken_lem e w l r done k m inside old after is left =
       done_on_lem known e (link_takes w l r p) _ done
       (ap (λ (a : RecordNumber). tables_of s (snooped w a (with_value l a (logged w l p)))) (register_stands s t c w r k m)
       ∙ store_tables w l (record_number (get_or t.registers (place w r) 0)) k inside (register_low known w r k m) (room-stands w l k inside))
-      ∙ (λ j. record { answer = Stored (value-stands s t c l j); collector = store_collector w l r j; tables = link_taken s w l r t })
+      ∙ (λ j. record { answer = Stored ((value-stands s t c l ∙ sym is) j); collector = store_collector w l r j; tables = sym left j })
 
   pub stored : (w q f r : ℕ) → has_numbers s w q r f ≡ true
       → (get_or t.registers (place w q) 0 ≡ 0 → ⊥)
-      → (link_through w q f).0 < links s
-      → let l : LinkNumber = link_through w q f in
-      event_on s t c (Store w q f r) ≡ record { answer = Stored (record_number (get_or t.values l.0 0)); collector = c; tables = link_taken s w l r t }
+      → (l : LinkNumber) → l ≡ link_through w q f → l.0 < links s
+      → (old : RecordNumber) (after : Tables) → old ≡ record_number (get_or t.values l.0 0) → after ≡ link_taken s w l r t
+      → event_on s t c (Store w q f r) ≡ record { answer = Stored old; collector = c; tables = after }
   unfolding refusals does stores
-  stored w q f r here some inside =
+  stored w q f r here some l same inside =
       let at = numbers_there s w q r f here in
       let base = base_stands known w q r f here in
       let link : link_number s (register_at p w q) f ≡ link_through w q f = ap (λ (a : RecordNumber). link_number s a f) base in
       let unempty : eqb (register_at p w q).0 0 ≡ false = ne_eqb (register_at p w q).0 0 (λ e. some (ap (λ (a : RecordNumber). a.0) (sym base) ∙ e)) in
-      link_taken_lem (Store w q f r) w (link_through w q f) r
-      (unrefused known (Store w q f r) (has_worker s w) (has_register s q && has_register s r) (has_link s f) refl here (unempty, tt) ∙ ap (λ (l : LinkNumber). link_takes w l r p) link)
+      link_taken_lem (Store w q f r) w l r
+      (unrefused known (Store w q f r) (has_worker s w) (has_register s q && has_register s r) (has_link s f) refl here (unempty, tt) ∙ ap (λ (l : LinkNumber). link_takes w l r p) (link ∙ sym same))
       at.0.worker
       at.1
       inside
 
   pub posted : (w e r : ℕ) → (has_worker s w && has_register s r && has_entry s e) ≡ true
-      → let l : LinkNumber = board_number s e in
-      event_on s t c (Post w e r) ≡ record { answer = Stored (record_number (get_or t.values l.0 0)); collector = c; tables = link_taken s w l r t }
+      → (l : LinkNumber) → l ≡ board_number s e → l.0 < links s
+      → (old : RecordNumber) (after : Tables) → old ≡ record_number (get_or t.values l.0 0) → after ≡ link_taken s w l r t
+      → event_on s t c (Post w e r) ≡ record { answer = Stored old; collector = c; tables = after }
   unfolding refusals does posts
-  posted w e r here =
+  posted w e r here l same inside =
       let at = entry_there s w r e here in
-      link_taken_lem (Post w e r) w (board_number s e) r
-      (unrefused known (Post w e r) (has_worker s w) (has_register s r) (has_entry s e) refl here tt)
+      link_taken_lem (Post w e r) w l r
+      (unrefused known (Post w e r) (has_worker s w) (has_register s r) (has_entry s e) refl here tt ∙ ap (λ (m : LinkNumber). link_takes w m r p) (sym same))
       at.0.worker
       at.0.register
-      (board_inside s e at.1)
+      inside

@@ -25,23 +25,26 @@ use Rattle.tally.specs.declared.Report.{Report}
 use Rattle.tally.specs.Traced.{ReportOn}
 use Rattle.many.specs.declared.Many.{Many}
 use Rattle.many.specs.Many.{ManyOn}
+use Rattle.yuyarisun.specs.declared.LentCollector.{LentCollector}
 use Rattle.yuyarisun.specs.Exported.{numbers}
+use Rattle.yuyarisun.specs.Lent.{collector_in}
 use Rattle.yuyarisun.specs.Several.{rest_number, rest_place, many_numbers, ending_number, ending_place, ending_free, trace_numbers, report_numbers}
 
-pub in_numbers : (given : Called) (x : Answered) (t : Tables) (n v : ℕ)
-    → given ≡ record { answer = x.answer; collector = x.collector; tables = t } → n ≡ number x.answer → v ≡ value x.answer
-    → numbers given
-    ≡ record { number = n; value = v; phase = x.collector.phase; position = x.collector.position; closed = x.collector.closed; tables = t }
+pub in_numbers : (call : Collector → Called) {c d : Collector} (x : Answered) (t : Tables) (n v : ℕ) (after : LentCollector)
+    → c ≡ d → call c ≡ record { answer = x.answer; collector = x.collector; tables = t } → n ≡ number x.answer → v ≡ value x.answer → collector_in after ≡ x.collector
+    → numbers (call d)
+    ≡ record { number = n; value = v; phase = after.phase.now; position = after.position.now; closed = after.closed.now; tables = t }
 unfolding numbers
-in_numbers given x t n v gives numbered valued =
-    ap numbers gives
+in_numbers call x t n v after same gives numbered valued set =
+    ap (λ (c : Collector). numbers (call c)) (sym same)
+    ∙ ap numbers gives
     ∙ (λ j.
     record {
       number = sym numbered j;
       value = sym valued j;
-      phase = x.collector.phase;
-      position = x.collector.position;
-      closed = x.collector.closed;
+      phase = (sym set j).phase;
+      position = (sym set j).position;
+      closed = (sym set j).closed;
       tables = t;
     })
 
@@ -53,95 +56,102 @@ fresh-value s t c = none (fits s t)
     none true = refl
     none false = refl
 
-pub many_in_numbers : (given : ManyOn) (x : Many) (t : Tables) (answers : List ℕ) (n place : ℕ)
-    → given ≡ record { rest = x.rest; ran = x.ran; tables = t; answers = answers } → n ≡ rest_number x.rest → place ≡ rest_place x.rest x.ran.next
-    → many_numbers given
-    ≡ record {
-      number = n;
-      place = place;
-      step = x.ran.step;
-      events = x.ran.events;
-      phase = x.ran.collector.phase;
-      position = x.ran.collector.position;
-      closed = x.ran.collector.closed;
-      tables = t;
-      answers = answers;
-    }
-unfolding many_numbers
-many_in_numbers given x t answers n place gives numbered placed =
-    ap many_numbers gives
-    ∙ (λ j.
-    record {
-      number = sym numbered j;
-      place = sym placed j;
-      step = x.ran.step;
-      events = x.ran.events;
-      phase = x.ran.collector.phase;
-      position = x.ran.collector.position;
-      closed = x.ran.collector.closed;
-      tables = t;
-      answers = answers;
-    })
+module _ {c d : Collector} (after : LentCollector) (same : c ≡ d) where
+  pub many_in_numbers : (call : Collector → ManyOn) (x : Many) (t : Tables) (answers : List ℕ) (n place : ℕ)
+      → call c ≡ record { rest = x.rest; ran = x.ran; tables = t; answers = answers } → n ≡ rest_number x.rest → place ≡ rest_place x.rest x.ran.next
+      → collector_in after ≡ x.ran.collector
+      → many_numbers (call d)
+      ≡ record {
+        number = n;
+        place = place;
+        step = x.ran.step;
+        events = x.ran.events;
+        phase = after.phase.now;
+        position = after.position.now;
+        closed = after.closed.now;
+        tables = t;
+        answers = answers;
+      }
+  unfolding many_numbers
+  many_in_numbers call x t answers n place gives numbered placed set =
+      ap (λ (c : Collector). many_numbers (call c)) (sym same)
+      ∙ ap many_numbers gives
+      ∙ (λ j.
+      record {
+        number = sym numbered j;
+        place = sym placed j;
+        step = x.ran.step;
+        events = x.ran.events;
+        phase = (sym set j).phase;
+        position = (sym set j).position;
+        closed = (sym set j).closed;
+        tables = t;
+        answers = answers;
+      })
 
-pub trace_in_numbers : (given : Traced) (x : Replay) (t : Tables) (answers : List ℕ) (n free place : ℕ)
-    → given ≡ record { replay = x; tables = t; answers = answers } → n ≡ ending_number x.ending → free ≡ ending_free x.ending → place ≡ ending_place x.ending
-    → trace_numbers given
-    ≡ record {
-      number = n;
-      free = free;
-      place = place;
-      events = x.events;
-      phase = x.collector.phase;
-      position = x.collector.position;
-      closed = x.collector.closed;
-      tables = t;
-      answers = answers;
-    }
-unfolding trace_numbers
-trace_in_numbers given x t answers n free place gives numbered counted placed =
-    ap trace_numbers gives
-    ∙ (λ j.
-    record {
-      number = sym numbered j;
-      free = sym counted j;
-      place = sym placed j;
-      events = x.events;
-      phase = x.collector.phase;
-      position = x.collector.position;
-      closed = x.collector.closed;
-      tables = t;
-      answers = answers;
-    })
+  pub trace_in_numbers : (call : Collector → Traced) (x : Replay) (t : Tables) (answers : List ℕ) (n free place : ℕ)
+      → call c ≡ record { replay = x; tables = t; answers = answers } → n ≡ ending_number x.ending → free ≡ ending_free x.ending → place ≡ ending_place x.ending
+      → collector_in after ≡ x.collector
+      → trace_numbers (call d)
+      ≡ record {
+        number = n;
+        free = free;
+        place = place;
+        events = x.events;
+        phase = after.phase.now;
+        position = after.position.now;
+        closed = after.closed.now;
+        tables = t;
+        answers = answers;
+      }
+  unfolding trace_numbers
+  trace_in_numbers call x t answers n free place gives numbered counted placed set =
+      ap (λ (c : Collector). trace_numbers (call c)) (sym same)
+      ∙ ap trace_numbers gives
+      ∙ (λ j.
+      record {
+        number = sym numbered j;
+        free = sym counted j;
+        place = sym placed j;
+        events = x.events;
+        phase = (sym set j).phase;
+        position = (sym set j).position;
+        closed = (sym set j).closed;
+        tables = t;
+        answers = answers;
+      })
 
-pub report_in_numbers : (given : ReportOn) (x : Report) (t : Tables) (numbers : List ℤ) (n free place : ℕ)
-    → given ≡ record { report = x; tables = t; numbers = numbers }
-    → n ≡ ending_number x.replay.ending → free ≡ ending_free x.replay.ending → place ≡ ending_place x.replay.ending
-    → report_numbers given
-    ≡ record {
-      number = n;
-      free = free;
-      place = place;
-      events = x.replay.events;
-      cycles = x.cycles;
-      phase = x.replay.collector.phase;
-      position = x.replay.collector.position;
-      closed = x.replay.collector.closed;
-      tables = t;
-      numbers = numbers;
-    }
-unfolding report_numbers
-report_in_numbers given x t numbers n free place gives numbered counted placed =
-    ap report_numbers gives
-    ∙ (λ j.
-    record {
-      number = sym numbered j;
-      free = sym counted j;
-      place = sym placed j;
-      events = x.replay.events;
-      cycles = x.cycles;
-      phase = x.replay.collector.phase;
-      position = x.replay.collector.position;
-      closed = x.replay.collector.closed;
-      tables = t;
-      numbers = numbers;
-    })
+  pub report_in_numbers : (call : Collector → ReportOn) (x : Report) (t : Tables) (numbers : List ℤ) (n free place : ℕ)
+      → call c ≡ record { report = x; tables = t; numbers = numbers }
+      → n ≡ ending_number x.replay.ending → free ≡ ending_free x.replay.ending → place ≡ ending_place x.replay.ending
+      → collector_in after ≡ x.replay.collector
+      → report_numbers (call d)
+      ≡ record {
+        number = n;
+        free = free;
+        place = place;
+        events = x.replay.events;
+        cycles = x.cycles;
+        phase = after.phase.now;
+        position = after.position.now;
+        closed = after.closed.now;
+        tables = t;
+        numbers = numbers;
+      }
+  unfolding report_numbers
+  report_in_numbers call x t numbers n free place gives numbered counted placed set =
+      ap (λ (c : Collector). report_numbers (call c)) (sym same)
+      ∙ ap report_numbers gives
+      ∙ (λ j.
+      record {
+        number = sym numbered j;
+        free = sym counted j;
+        place = sym placed j;
+        events = x.replay.events;
+        cycles = x.cycles;
+        phase = (sym set j).phase;
+        position = (sym set j).position;
+        closed = (sym set j).closed;
+        tables = t;
+        numbers = numbers;
+      })

@@ -2,23 +2,22 @@
 --     joined_number, joined_length, joined_place     what joining comes to
 --     JoinNumbers, join_numbers                      the call
 -- Assumes nothing.
-use Rattle.std.specs.Prelude.{ℕ, List}
+use Rattle.std.specs.Prelude.{ℕ, List, Result, Ok, Err}
 use Rattle.rules.specs.Reply.{refusal_number}
-use Rattle.join.specs.declared.Joined.{Joined}
-use Rattle.join.specs.declared.Joined.TheVariants.{Length, Refused}
+use Rattle.fields.specs.declared.RefusedAt.{RefusedAt}
 use Rattle.join.specs.Joined.{JoinedOn}
 
-unfoldable pub joined_number : Joined → ℕ
-joined_number (Length n) = 0
-joined_number (Refused why at) = refusal_number why
+abbrev pub joined_number : Result ℕ RefusedAt → ℕ
+joined_number (Ok n) = 0
+joined_number (Err e) = refusal_number e.why
 
-unfoldable pub joined_length : Joined → ℕ
-joined_length (Length n) = n
-joined_length (Refused why at) = 0
+abbrev pub joined_length : Result ℕ RefusedAt → ℕ
+joined_length (Ok n) = n
+joined_length (Err e) = 0
 
-unfoldable pub joined_place : Joined → ℕ
-joined_place (Length n) = 0
-joined_place (Refused why at) = at
+abbrev pub joined_place : Result ℕ RefusedAt → ℕ
+joined_place (Ok n) = 0
+joined_place (Err e) = e.place
 
 pub record JoinNumbers : Type 0 where
   pub number : ℕ

@@ -5,24 +5,22 @@
 --     TraceNumbers, trace_numbers       a whole trace
 --     ReportNumbers, report_numbers     a whole trace, with its closed cycles
 -- Assumes nothing.
-use Rattle.std.specs.Prelude.{ℕ, List, ℤ}
+use Rattle.std.specs.Prelude.{ℕ, ⊤, List, ℤ, Result, Ok, Err}
 use Rattle.rules.specs.Reply.{refusal_number}
 use Rattle.tables.specs.Tables.{Tables}
-use Rattle.trace.specs.declared.Ending.{Ending}
-use Rattle.trace.specs.declared.Ending.TheVariants as ending
+use Rattle.fields.specs.declared.RefusedAt.{RefusedAt}
+use Rattle.trace.specs.Replay.{Ending}
 use Rattle.trace.specs.Traced.{Traced}
 use Rattle.tally.specs.Traced.{ReportOn}
-use Rattle.many.specs.declared.Rest.{Rest}
-use Rattle.many.specs.declared.Rest.TheVariants as rest
 use Rattle.many.specs.Many.{ManyOn}
 
-unfoldable pub rest_number : Rest → ℕ
-rest_number rest.Nothing = 0
-rest_number (rest.Stopped why at) = refusal_number why
+abbrev pub rest_number : Result ⊤ RefusedAt → ℕ
+rest_number (Ok done) = 0
+rest_number (Err e) = refusal_number e.why
 
-unfoldable pub rest_place : Rest → ℕ → ℕ
-rest_place rest.Nothing next = next
-rest_place (rest.Stopped why at) next = at
+abbrev pub rest_place : Result ⊤ RefusedAt → ℕ → ℕ
+rest_place (Ok done) next = next
+rest_place (Err e) next = e.place
 
 pub record ManyNumbers : Type 0 where
   pub number : ℕ
@@ -49,17 +47,17 @@ many_numbers x =
       answers = x.answers;
     }
 
-unfoldable pub ending_number : Ending → ℕ
-ending_number (ending.Whole free closed) = 0
-ending_number (ending.Stopped why at) = refusal_number why
+abbrev pub ending_number : Ending → ℕ
+ending_number (Ok w) = 0
+ending_number (Err e) = refusal_number e.why
 
-unfoldable pub ending_place : Ending → ℕ
-ending_place (ending.Whole free closed) = 0
-ending_place (ending.Stopped why at) = at
+abbrev pub ending_place : Ending → ℕ
+ending_place (Ok w) = 0
+ending_place (Err e) = e.place
 
-unfoldable pub ending_free : Ending → ℕ
-ending_free (ending.Whole free closed) = free
-ending_free (ending.Stopped why at) = 0
+abbrev pub ending_free : Ending → ℕ
+ending_free (Ok w) = w.free
+ending_free (Err e) = 0
 
 pub record TraceNumbers : Type 0 where
   pub number : ℕ

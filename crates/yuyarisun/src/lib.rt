@@ -7,11 +7,12 @@
 //     yuyarisun_report                                                        a whole trace, and the numbers of its closed cycles
 //     yuyarisun_join                                                          parts of a trace, joined
 //     yuyarisun_inner_event                                                   inner: an event on a pool that is known to be sound; in no header
-// Inner: one_event, event_of, rest_number, rest_place, ending_number, ending_place, ending_free, joined_number, joined_length, joined_place.
+// Inner: LentCollector, the collector's record in three numbers; answered, an answer in numbers; one_event, one event; refused, a refusal; stopped, what stopped many events; ended, how a trace ended; event_of, the event of a tag.
 #![tactic(auto)]
 
 ghost use Rattle.std.specs.Prelude.{◌≡◌, ◌&&◌};
 ghost use Rattle.tables.specs.Tables.{lent};
+ghost use Rattle.tables.specs.Lent.{contents, SameTables};
 ghost use Rattle.fresh.specs.Free.{free_in};
 ghost use Rattle.tables.specs.Known.{Known};
 ghost use Rattle.tables.specs.Event.{event_on};
@@ -23,65 +24,77 @@ ghost use Rattle.trace.specs.Traced.{traced};
 ghost use Rattle.tally.specs.Traced.{report_traced};
 ghost use Rattle.many.specs.Many.{many_on};
 ghost use Rattle.join.specs.Joined.{joined_on};
+ghost use Rattle.rules.specs.Reply.{number, value as value_in, refusal_number};
 ghost use Rattle.yuyarisun.specs.Exported.{sizes_of, collector_of, event_of, numbers};
+ghost use Rattle.yuyarisun.specs.Lent.{collector_in, SameCollector};
 ghost use Rattle.yuyarisun.specs.Several.{rest_number, rest_place, many_numbers, ending_number, ending_place, ending_free, trace_numbers, report_numbers};
-ghost use Rattle.yuyarisun.specs.Join.{joined_number, joined_length, joined_place, join_numbers};
+ghost use Rattle.yuyarisun.specs.Join.{join_numbers};
 
 use events::event_known;
+use fields::{RefusedAt, event_at};
 use fresh::{free_records, fresh};
-use join::{Joined, join};
-use many::{Rest, many_events};
+use join::join;
+use many::many_events;
 use pool::{event, sound};
 use reply::{number_of, refusal_number, value_of};
-use rules::{Collector, Event, Sizes};
+use rules::{Answered, Collector, Event, Sizes};
+use tables::lent::{LentTables, ReadTables};
 use tally::report_trace;
 use trace::{Ending, replay_trace};
 
-// One event on a lent pool, in numbers.
-fn one_event(
-    n: u16,
-    k: u16,
-    w: u16,
-    r: u16,
-    b: u16,
-    used: &mut [u64],
-    counts: &mut [u16],
-    held: &mut [u64],
-    candidates: &mut [u64],
-    makers: &mut [u16],
-    values: &mut [u16],
-    changed: &mut [u64],
-    registers: &mut [u16],
-    snoops: &mut [u16],
-    logs: &mut [u16],
-    history: &mut [u16],
-    lengths: &mut [u16],
-    phase: &mut u16,
-    position: &mut u16,
-    closed: &mut u16,
-    value: &mut u16,
-    e: Event,
-) -> u16
-    ensures { numbers (called (sizes_of n k w r b) (lent used.old counts.old held.old candidates.old makers.old values.old changed.old registers.old snoops.old logs.old history.old lengths.old) (collector_of phase.old position.old closed.old) e)
-        ≡ record { number = result; value = value.new; phase = phase.new; position = position.new; closed = closed.new; tables = lent used.new counts.new held.new candidates.new makers.new values.new changed.new registers.new snoops.new logs.new history.new lengths.new } }
+// The collector's record, in the three numbers that C lends.
+#[derive(Drop)]
+struct LentCollector<'a> {
+    phase: &'a mut u16,
+    position: &'a mut u16,
+    closed: &'a mut u16,
+}
+
+impl LentCollector<'_> {
+    ghost use Rattle.std.specs.Prelude.{◌≡◌};
+    ghost use Rattle.yuyarisun.specs.Lent.{collector_in, SameCollector};
+
+    fn get(&self) -> Collector
+        ensures { result ≡ collector_in self.now }
+    {
+        Collector {
+            phase: *self.phase,
+            position: *self.position,
+            closed: *self.closed,
+        }
+    }
+
+    fn set(&mut self, c: Collector)
+        ensures set { collector_in self.new ≡ c }
+        ensures same { SameCollector self.old self.new }
+    {
+        *self.phase = c.phase;
+        *self.position = c.position;
+        *self.closed = c.closed;
+    }
+}
+
+// What a call on a pool answers, in numbers: the collector's record is set, and the value.
+fn answered(x: Answered, c: &mut LentCollector, value: &mut u16) -> u16
+    ensures number { result ≡ number x.answer }
+    ensures value { value.new ≡ value_in x.answer }
+    ensures set { collector_in c.new ≡ x.collector }
+    ensures same { SameCollector c.old c.new }
 {
-    let s = Sizes { n, k, w, r, b };
-    let c = Collector {
-        phase: *phase,
-        position: *position,
-        closed: *closed,
-    };
-    let x = event(
-        s, used, counts, held, candidates, makers, values, changed, registers, snoops, logs,
-        history, lengths, c, e,
-    );
-    let after = x.collector;
-    *phase = after.phase;
-    *position = after.position;
-    *closed = after.closed;
-    let answer = x.answer;
-    *value = value_of(answer);
-    number_of(answer)
+    c.set(x.collector);
+    *value = value_of(x.answer);
+    number_of(x.answer)
+}
+
+// One event on a lent pool, in numbers.
+fn one_event(s: Sizes, t: &mut LentTables, c: &mut LentCollector, value: &mut u16, e: Event) -> u16
+    ensures done { numbers (called s (contents t.old) (collector_in c.old) e)
+        ≡ record { number = result; value = value.new; phase = c.new.phase.now; position = c.new.position.now; closed = c.new.closed.now; tables = contents t.new } }
+    ensures tables { SameTables t.old t.new }
+    ensures collector { SameCollector c.old c.new }
+{
+    let x = event(s, t, c.get(), e);
+    answered(x, c, value)
 }
 
 // make: the first free record above the last one made, else the lowest, becomes used, and the register holds it. The value is its number.
@@ -114,12 +127,9 @@ pub extern "C" fn yuyarisun_make(
     ensures { numbers (called (sizes_of n k w r b) (lent used.old counts.old held.old candidates.old makers.old values.old changed.old registers.old snoops.old logs.old history.old lengths.old) (collector_of phase.old position.old closed.old) (Event.Make worker register))
         ≡ record { number = result; value = value.new; phase = phase.new; position = position.new; closed = closed.new; tables = lent used.new counts.new held.new candidates.new makers.new values.new changed.new registers.new snoops.new logs.new history.new lengths.new } }
 {
-    one_event(
-        n,
-        k,
-        w,
-        r,
-        b,
+    let s = Sizes { n, k, w, r, b };
+    // Written out in each call: the C interface hands each table as a parameter, and a function that made the struct would take the same twelve.
+    let mut t = LentTables {
         used,
         counts,
         held,
@@ -132,9 +142,16 @@ pub extern "C" fn yuyarisun_make(
         logs,
         history,
         lengths,
+    };
+    let mut c = LentCollector {
         phase,
         position,
         closed,
+    };
+    one_event(
+        s,
+        &mut t,
+        &mut c,
         value,
         Event::Make {
             w: worker,
@@ -174,12 +191,8 @@ pub extern "C" fn yuyarisun_move(
     ensures { numbers (called (sizes_of n k w r b) (lent used.old counts.old held.old candidates.old makers.old values.old changed.old registers.old snoops.old logs.old history.old lengths.old) (collector_of phase.old position.old closed.old) (Event.Move worker register from))
         ≡ record { number = result; value = value.new; phase = phase.new; position = position.new; closed = closed.new; tables = lent used.new counts.new held.new candidates.new makers.new values.new changed.new registers.new snoops.new logs.new history.new lengths.new } }
 {
-    one_event(
-        n,
-        k,
-        w,
-        r,
-        b,
+    let s = Sizes { n, k, w, r, b };
+    let mut t = LentTables {
         used,
         counts,
         held,
@@ -192,9 +205,16 @@ pub extern "C" fn yuyarisun_move(
         logs,
         history,
         lengths,
+    };
+    let mut c = LentCollector {
         phase,
         position,
         closed,
+    };
+    one_event(
+        s,
+        &mut t,
+        &mut c,
         value,
         Event::Move {
             w: worker,
@@ -234,12 +254,8 @@ pub extern "C" fn yuyarisun_drop(
     ensures { numbers (called (sizes_of n k w r b) (lent used.old counts.old held.old candidates.old makers.old values.old changed.old registers.old snoops.old logs.old history.old lengths.old) (collector_of phase.old position.old closed.old) (Event.Drop worker register))
         ≡ record { number = result; value = value.new; phase = phase.new; position = position.new; closed = closed.new; tables = lent used.new counts.new held.new candidates.new makers.new values.new changed.new registers.new snoops.new logs.new history.new lengths.new } }
 {
-    one_event(
-        n,
-        k,
-        w,
-        r,
-        b,
+    let s = Sizes { n, k, w, r, b };
+    let mut t = LentTables {
         used,
         counts,
         held,
@@ -252,9 +268,16 @@ pub extern "C" fn yuyarisun_drop(
         logs,
         history,
         lengths,
+    };
+    let mut c = LentCollector {
         phase,
         position,
         closed,
+    };
+    one_event(
+        s,
+        &mut t,
+        &mut c,
         value,
         Event::Drop {
             w: worker,
@@ -295,12 +318,8 @@ pub extern "C" fn yuyarisun_load(
     ensures { numbers (called (sizes_of n k w r b) (lent used.old counts.old held.old candidates.old makers.old values.old changed.old registers.old snoops.old logs.old history.old lengths.old) (collector_of phase.old position.old closed.old) (Event.Load worker register through link))
         ≡ record { number = result; value = value.new; phase = phase.new; position = position.new; closed = closed.new; tables = lent used.new counts.new held.new candidates.new makers.new values.new changed.new registers.new snoops.new logs.new history.new lengths.new } }
 {
-    one_event(
-        n,
-        k,
-        w,
-        r,
-        b,
+    let s = Sizes { n, k, w, r, b };
+    let mut t = LentTables {
         used,
         counts,
         held,
@@ -313,9 +332,16 @@ pub extern "C" fn yuyarisun_load(
         logs,
         history,
         lengths,
+    };
+    let mut c = LentCollector {
         phase,
         position,
         closed,
+    };
+    one_event(
+        s,
+        &mut t,
+        &mut c,
         value,
         Event::Load {
             w: worker,
@@ -358,12 +384,8 @@ pub extern "C" fn yuyarisun_store(
     ensures { numbers (called (sizes_of n k w r b) (lent used.old counts.old held.old candidates.old makers.old values.old changed.old registers.old snoops.old logs.old history.old lengths.old) (collector_of phase.old position.old closed.old) (Event.Store worker through link register))
         ≡ record { number = result; value = value.new; phase = phase.new; position = position.new; closed = closed.new; tables = lent used.new counts.new held.new candidates.new makers.new values.new changed.new registers.new snoops.new logs.new history.new lengths.new } }
 {
-    one_event(
-        n,
-        k,
-        w,
-        r,
-        b,
+    let s = Sizes { n, k, w, r, b };
+    let mut t = LentTables {
         used,
         counts,
         held,
@@ -376,9 +398,16 @@ pub extern "C" fn yuyarisun_store(
         logs,
         history,
         lengths,
+    };
+    let mut c = LentCollector {
         phase,
         position,
         closed,
+    };
+    one_event(
+        s,
+        &mut t,
+        &mut c,
         value,
         Event::Store {
             w: worker,
@@ -420,12 +449,8 @@ pub extern "C" fn yuyarisun_look(
     ensures { numbers (called (sizes_of n k w r b) (lent used.old counts.old held.old candidates.old makers.old values.old changed.old registers.old snoops.old logs.old history.old lengths.old) (collector_of phase.old position.old closed.old) (Event.Look worker register entry))
         ≡ record { number = result; value = value.new; phase = phase.new; position = position.new; closed = closed.new; tables = lent used.new counts.new held.new candidates.new makers.new values.new changed.new registers.new snoops.new logs.new history.new lengths.new } }
 {
-    one_event(
-        n,
-        k,
-        w,
-        r,
-        b,
+    let s = Sizes { n, k, w, r, b };
+    let mut t = LentTables {
         used,
         counts,
         held,
@@ -438,9 +463,16 @@ pub extern "C" fn yuyarisun_look(
         logs,
         history,
         lengths,
+    };
+    let mut c = LentCollector {
         phase,
         position,
         closed,
+    };
+    one_event(
+        s,
+        &mut t,
+        &mut c,
         value,
         Event::Look {
             w: worker,
@@ -481,12 +513,8 @@ pub extern "C" fn yuyarisun_post(
     ensures { numbers (called (sizes_of n k w r b) (lent used.old counts.old held.old candidates.old makers.old values.old changed.old registers.old snoops.old logs.old history.old lengths.old) (collector_of phase.old position.old closed.old) (Event.Post worker entry register))
         ≡ record { number = result; value = value.new; phase = phase.new; position = position.new; closed = closed.new; tables = lent used.new counts.new held.new candidates.new makers.new values.new changed.new registers.new snoops.new logs.new history.new lengths.new } }
 {
-    one_event(
-        n,
-        k,
-        w,
-        r,
-        b,
+    let s = Sizes { n, k, w, r, b };
+    let mut t = LentTables {
         used,
         counts,
         held,
@@ -499,9 +527,16 @@ pub extern "C" fn yuyarisun_post(
         logs,
         history,
         lengths,
+    };
+    let mut c = LentCollector {
         phase,
         position,
         closed,
+    };
+    one_event(
+        s,
+        &mut t,
+        &mut c,
         value,
         Event::Post {
             w: worker,
@@ -539,12 +574,8 @@ pub extern "C" fn yuyarisun_collect(
     ensures { numbers (called (sizes_of n k w r b) (lent used.old counts.old held.old candidates.old makers.old values.old changed.old registers.old snoops.old logs.old history.old lengths.old) (collector_of phase.old position.old closed.old) Event.Collect)
         ≡ record { number = result; value = value.new; phase = phase.new; position = position.new; closed = closed.new; tables = lent used.new counts.new held.new candidates.new makers.new values.new changed.new registers.new snoops.new logs.new history.new lengths.new } }
 {
-    one_event(
-        n,
-        k,
-        w,
-        r,
-        b,
+    let s = Sizes { n, k, w, r, b };
+    let mut t = LentTables {
         used,
         counts,
         held,
@@ -557,12 +588,13 @@ pub extern "C" fn yuyarisun_collect(
         logs,
         history,
         lengths,
+    };
+    let mut c = LentCollector {
         phase,
         position,
         closed,
-        value,
-        Event::Collect,
-    )
+    };
+    one_event(s, &mut t, &mut c, value, Event::Collect)
 }
 
 // Makes lent tables a fresh pool, whatever they held; 1 where a size or a length is wrong, and then nothing changes.
@@ -593,21 +625,28 @@ pub extern "C" fn yuyarisun_fresh(
         ≡ record { number = result; value = 0; phase = phase.new; position = position.new; closed = closed.new; tables = lent used.new counts.new held.new candidates.new makers.new values.new changed.new registers.new snoops.new logs.new history.new lengths.new } }
 {
     let s = Sizes { n, k, w, r, b };
-    let c = Collector {
-        phase: *phase,
-        position: *position,
-        closed: *closed,
+    let mut t = LentTables {
+        used,
+        counts,
+        held,
+        candidates,
+        makers,
+        values,
+        changed,
+        registers,
+        snoops,
+        logs,
+        history,
+        lengths,
     };
-    let x = fresh(
-        s, used, counts, held, candidates, makers, values, changed, registers, snoops, logs,
-        history, lengths, c,
-    );
-    let after = x.collector;
-    *phase = after.phase;
-    *position = after.position;
-    *closed = after.closed;
-    let answer = x.answer;
-    number_of(answer)
+    let mut c = LentCollector {
+        phase,
+        position,
+        closed,
+    };
+    let x = fresh(s, &mut t, c.get());
+    c.set(x.collector);
+    number_of(x.answer)
 }
 
 // Whether sizes are in range, every length is exact and the pool is sound.
@@ -636,8 +675,7 @@ pub extern "C" fn yuyarisun_sound(
 ) -> bool
     ensures { result ≡ (fits (sizes_of n k w r b) (lent used.now counts.now held.now candidates.now makers.now values.now changed.now registers.now snoops.now logs.now history.now lengths.now) && is_sound (sizes_of n k w r b) (lent used.now counts.now held.now candidates.now makers.now values.now changed.now registers.now snoops.now logs.now history.now lengths.now) (collector_of phase position closed)) }
 {
-    sound(
-        Sizes { n, k, w, r, b },
+    let t = ReadTables {
         used,
         counts,
         held,
@@ -650,12 +688,13 @@ pub extern "C" fn yuyarisun_sound(
         logs,
         history,
         lengths,
-        Collector {
-            phase,
-            position,
-            closed,
-        },
-    )
+    };
+    let c = Collector {
+        phase,
+        position,
+        closed,
+    };
+    sound(Sizes { n, k, w, r, b }, t, c)
 }
 
 // How many records are free, of n in words of used marks: n less the ones, whatever words these are, and however many; where there are more ones, 0.
@@ -667,30 +706,11 @@ pub extern "C" fn yuyarisun_free_records(n: u16, used: &[u64]) -> usize
 }
 
 // The event of a trace's tag, with its numbers in the trace's order; collect, if it is no other's.
-#[tactic(auto, unfolding(crate::specs::Exported::event_of))]
+#[tactic(auto, unfolding(fields::specs::Field::payload_of, fields::specs::Field::event_at, crate::specs::Exported::event_of))]
 fn event_of(tag: u8, a: u8, b: u8, c: u8, d: u8) -> Event
     ensures { result ≡ event_of tag a b c d }
 {
-    match tag {
-        0x10 => Event::Make { w: a, r: b },
-        0x11 => Event::Move { w: a, r: b, q: c },
-        0x12 => Event::Drop { w: a, r: b },
-        0x13 => Event::Load {
-            w: a,
-            r: b,
-            q: c,
-            f: d,
-        },
-        0x14 => Event::Store {
-            w: a,
-            q: b,
-            f: c,
-            r: d,
-        },
-        0x15 => Event::Look { w: a, r: b, e: c },
-        0x16 => Event::Post { w: a, e: b, r: c },
-        _ => Event::Collect,
-    }
+    event_at(tag, &[a, b, c, d], 0)
 }
 
 // An event on a pool that is known to be sound, which nothing checks. Inner: it is for the Rust type, whose tables are its own (rust/src/lib.rs), and in no header.
@@ -728,13 +748,7 @@ pub extern "C" fn yuyarisun_inner_event(
         ≡ record { number = result; value = value.new; phase = phase.new; position = position.new; closed = closed.new; tables = lent used.new counts.new held.new candidates.new makers.new values.new changed.new registers.new snoops.new logs.new history.new lengths.new } }
 {
     let s = Sizes { n, k, w, r, b };
-    let before = Collector {
-        phase: *phase,
-        position: *position,
-        closed: *closed,
-    };
-    let x = event_known(
-        s,
+    let mut t = LentTables {
         used,
         counts,
         held,
@@ -747,35 +761,37 @@ pub extern "C" fn yuyarisun_inner_event(
         logs,
         history,
         lengths,
-        before,
-        event_of(tag, first, second, third, fourth),
-    );
-    let after = x.collector;
-    *phase = after.phase;
-    *position = after.position;
-    *closed = after.closed;
-    let answer = x.answer;
-    *value = value_of(answer);
-    number_of(answer)
+    };
+    let mut c = LentCollector {
+        phase,
+        position,
+        closed,
+    };
+    let e = event_of(tag, first, second, third, fourth);
+    let x = event_known(s, &mut t, c.get(), e);
+    answered(x, &mut c, value)
 }
 
-// The number of what stopped many events, 0 if nothing did.
-fn rest_number(rest: Rest) -> u16
-    ensures { result ≡ rest_number rest }
+// A refusal, in numbers: its place into `place`.
+fn refused(e: RefusedAt, place: &mut usize) -> u16
+    ensures number { result ≡ refusal_number e.why }
+    ensures place { place.new ≡ e.place }
 {
-    match rest {
-        Rest::Nothing => 0,
-        Rest::Stopped(why, at) => refusal_number(why),
-    }
+    *place = e.place;
+    refusal_number(e.why)
 }
 
-// The place where many events stopped: behind the last of them, if nothing stopped them.
-fn rest_place(rest: Rest, next: usize) -> usize
-    ensures { result ≡ rest_place rest next }
+// What stopped many events, in numbers: its place into `place`, the one behind the last of them where nothing did.
+fn stopped(rest: Result<(), RefusedAt>, next: usize, place: &mut usize) -> u16
+    ensures number { result ≡ rest_number rest }
+    ensures place { place.new ≡ rest_place rest next }
 {
     match rest {
-        Rest::Nothing => next,
-        Rest::Stopped(why, at) => at,
+        Ok(()) => {
+            *place = next;
+            0
+        }
+        Err(e) => refused(e, place),
     }
 }
 
@@ -814,54 +830,48 @@ pub extern "C" fn yuyarisun_events(
         ≡ record { number = result; place = place.new; step = step.new; events = events.new; phase = phase.new; position = position.new; closed = closed.new; tables = lent used.new counts.new held.new candidates.new makers.new values.new changed.new registers.new snoops.new logs.new history.new lengths.new; answers = answers.new } }
 {
     let s = Sizes { n, k, w, r, b };
-    let before = Collector {
-        phase: *phase,
-        position: *position,
-        closed: *closed,
+    let mut t = LentTables {
+        used,
+        counts,
+        held,
+        candidates,
+        makers,
+        values,
+        changed,
+        registers,
+        snoops,
+        logs,
+        history,
+        lengths,
     };
-    let x = many_events(
-        s, used, counts, held, candidates, makers, values, changed, registers, snoops, logs,
-        history, lengths, before, bytes, *step, answers,
-    );
-    let ran = x.ran;
-    let after = ran.collector;
-    *phase = after.phase;
-    *position = after.position;
-    *closed = after.closed;
-    *step = ran.step;
-    *events = ran.events;
-    let rest = x.rest;
-    *place = rest_place(rest, ran.next);
-    rest_number(rest)
+    let mut c = LentCollector {
+        phase,
+        position,
+        closed,
+    };
+    let x = many_events(s, &mut t, c.get(), bytes, *step, answers);
+    c.set(x.ran.collector);
+    *step = x.ran.step;
+    *events = x.ran.events;
+    stopped(x.rest, x.ran.next, place)
 }
 
-// The number of how a trace ended, 0 if it is whole.
-fn ending_number(ending: Ending) -> u16
-    ensures { result ≡ ending_number ending }
+// How a trace ended, in numbers: the free records into `free`, the place of a refusal into `place`, 0 where there is none.
+fn ended(ending: Ending, free: &mut u16, place: &mut usize) -> u16
+    ensures number { result ≡ ending_number ending }
+    ensures free { free.new ≡ ending_free ending }
+    ensures place { place.new ≡ ending_place ending }
 {
     match ending {
-        Ending::Whole(free, closed) => 0,
-        Ending::Stopped(why, at) => refusal_number(why),
-    }
-}
-
-// The place where a trace was refused, 0 if it is whole.
-fn ending_place(ending: Ending) -> usize
-    ensures { result ≡ ending_place ending }
-{
-    match ending {
-        Ending::Whole(free, closed) => 0,
-        Ending::Stopped(why, at) => at,
-    }
-}
-
-// How many records are free at the end of a whole trace, 0 if it was refused.
-fn ending_free(ending: Ending) -> u16
-    ensures { result ≡ ending_free ending }
-{
-    match ending {
-        Ending::Whole(free, closed) => free,
-        Ending::Stopped(why, at) => 0,
+        Ok(whole) => {
+            *free = whole.free;
+            *place = 0;
+            0
+        }
+        Err(e) => {
+            *free = 0;
+            refused(e, place)
+        }
     }
 }
 
@@ -894,24 +904,29 @@ pub extern "C" fn yuyarisun_trace(
     ensures { trace_numbers (traced (lent used.old counts.old held.old candidates.old makers.old values.old changed.old registers.old snoops.old logs.old history.old lengths.old) (collector_of phase.old position.old closed.old) bytes.now answers.old)
         ≡ record { number = result; free = free.new; place = place.new; events = events.new; phase = phase.new; position = position.new; closed = closed.new; tables = lent used.new counts.new held.new candidates.new makers.new values.new changed.new registers.new snoops.new logs.new history.new lengths.new; answers = answers.new } }
 {
-    let before = Collector {
-        phase: *phase,
-        position: *position,
-        closed: *closed,
+    let mut t = LentTables {
+        used,
+        counts,
+        held,
+        candidates,
+        makers,
+        values,
+        changed,
+        registers,
+        snoops,
+        logs,
+        history,
+        lengths,
     };
-    let x = replay_trace(
-        used, counts, held, candidates, makers, values, changed, registers, snoops, logs, history,
-        lengths, before, bytes, answers,
-    );
-    let after = x.collector;
-    *phase = after.phase;
-    *position = after.position;
-    *closed = after.closed;
+    let mut c = LentCollector {
+        phase,
+        position,
+        closed,
+    };
+    let x = replay_trace(&mut t, c.get(), bytes, answers);
+    c.set(x.collector);
     *events = x.events;
-    let ending = x.ending;
-    *free = ending_free(ending);
-    *place = ending_place(ending);
-    ending_number(ending)
+    ended(x.ending, free, place)
 }
 
 // A whole trace, as `yuyarisun_trace` does it. In the place of the answers, the numbers of each cycle that closes are put into `lines` in turn, as far as there is room:
@@ -943,56 +958,30 @@ pub extern "C" fn yuyarisun_report(
     ensures { report_numbers (report_traced (lent used.old counts.old held.old candidates.old makers.old values.old changed.old registers.old snoops.old logs.old history.old lengths.old) (collector_of phase.old position.old closed.old) bytes.now lines.old)
         ≡ record { number = result; free = free.new; place = place.new; events = events.new; cycles = cycles.new; phase = phase.new; position = position.new; closed = closed.new; tables = lent used.new counts.new held.new candidates.new makers.new values.new changed.new registers.new snoops.new logs.new history.new lengths.new; numbers = lines.new } }
 {
-    let before = Collector {
-        phase: *phase,
-        position: *position,
-        closed: *closed,
+    let mut t = LentTables {
+        used,
+        counts,
+        held,
+        candidates,
+        makers,
+        values,
+        changed,
+        registers,
+        snoops,
+        logs,
+        history,
+        lengths,
     };
-    let y = report_trace(
-        used, counts, held, candidates, makers, values, changed, registers, snoops, logs, history,
-        lengths, before, bytes, lines,
-    );
-    *cycles = y.cycles;
-    let x = y.replay;
-    let after = x.collector;
-    *phase = after.phase;
-    *position = after.position;
-    *closed = after.closed;
-    *events = x.events;
-    let ending = x.ending;
-    *free = ending_free(ending);
-    *place = ending_place(ending);
-    ending_number(ending)
-}
-
-// The number of what joining comes to, 0 if the parts are joined.
-fn joined_number(joined: Joined) -> u16
-    ensures { result ≡ joined_number joined }
-{
-    match joined {
-        Joined::Length(n) => 0,
-        Joined::Refused(why, at) => refusal_number(why),
-    }
-}
-
-// How long the joined trace is, 0 if the parts are refused.
-fn joined_length(joined: Joined) -> usize
-    ensures { result ≡ joined_length joined }
-{
-    match joined {
-        Joined::Length(n) => n,
-        Joined::Refused(why, at) => 0,
-    }
-}
-
-// The place where the parts are refused, 0 if they are joined.
-fn joined_place(joined: Joined) -> usize
-    ensures { result ≡ joined_place joined }
-{
-    match joined {
-        Joined::Length(n) => 0,
-        Joined::Refused(why, at) => at,
-    }
+    let mut c = LentCollector {
+        phase,
+        position,
+        closed,
+    };
+    let x = report_trace(&mut t, c.get(), bytes, lines);
+    c.set(x.replay.collector);
+    *events = x.replay.events;
+    *cycles = x.cycles;
+    ended(x.replay.ending, free, place)
 }
 
 // Parts of a trace, joined: `parts` has them end to end, `lengths` how long each is. The answer is 0, with the joined trace at the beginning of `out` and its length
@@ -1008,8 +997,15 @@ pub extern "C" fn yuyarisun_join(
     ensures { join_numbers (joined_on parts.now lengths.now out.old)
         ≡ record { number = result; length = length.new; place = place.new; out = out.new } }
 {
-    let joined = join(parts, lengths, out);
-    *length = joined_length(joined);
-    *place = joined_place(joined);
-    joined_number(joined)
+    match join(parts, lengths, out) {
+        Ok(n) => {
+            *length = n;
+            *place = 0;
+            0
+        }
+        Err(e) => {
+            *length = 0;
+            refused(e, place)
+        }
+    }
 }

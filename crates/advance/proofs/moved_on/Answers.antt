@@ -4,8 +4,8 @@ use borrow.Author.Tests.{lt-leb}
 use Rattle.advance.proofs.Moved.{closing-moves, others_move}
 use Rattle.advance.proofs.moved_on.Goals as goal
 
-pub returns-then-phase-eq6 : goal.returns-then-phase-eq6
-returns-then-phase-eq6 c history h =
+pub returns-then-c-eq6 : goal.returns-then-c-eq6
+returns-then-c-eq6 c history h =
     let at = c.args in
     (λ j. record { phase = 0; position = 0; closed = c.next_closed.ensures j }) ∙ sym (closing-moves at.positions history at.c (omega arith))
 

@@ -1,54 +1,32 @@
--- `count::find` meets its contract. The loop's invariant: it stands behind an entry, and those from there on are for other links. Assumes nothing.
-use Prim.Native.Nat.{ℕ, suc, ◌-◌, ◌*◌, ◌≤◌, ◌<◌}
-use mathlib.Core.Path.{◌≡◌, refl, ◌∙◌}
+-- `count::find` meets its contract: the last pair of numbers that is for the link is the one entry for it, and where there is none no entry is. Assumes nothing.
+use Prim.Native.Nat.{ℕ, ◌/◌}
+use mathlib.Core.Path.{◌≡◌, refl, sym, ap, ◌∙◌}
+use mathlib.Core.List.{[], ◌∷◌, reverse}
 use native.Mathlib.Omega.{arith}
-use lib.ListN.{length}
+use native.Mathlib.Nat.{le_refl}
 use borrow.Author.Rules.{rules}
-use Rattle.rules.specs.View.{times}
-use Rattle.tables.specs.Lie.{entries}
-use Rattle.laws.proofs.Entries.{old_in_absent}
-use Rattle.count.proofs.Search.{next_below, passed_found, passed_more}
+use borrow.Author.Tests.{tests}
+use lib.ListN.{length}
+use Rattle.std.specs.Simd.{first_chunks}
+use Rattle.std.specs.Option.{option_map, unwrap_or}
+use Rattle.std.specs.List.{find}
+use Rattle.std.specs.Slice.Iter.{iter_rest, iter_steps_back}
+use Rattle.std.proofs.lemmas.List.{length-reverse, reverse-append}
+use Rattle.std.proofs.lemmas.Iterator.Consumers.{YieldsList-from_shown}
+use Rattle.std.proofs.lemmas.Iterator.Search.{find_from_yields_List}
+use Rattle.count.proofs.Search.{is_for, old_of, from_newest}
 use Rattle.count.proofs.find.Goals as goal
-use Rattle.count.proofs.find.Goals.{In-loop-i}
-
-pub loop-i-init : goal.loop-i-init
-loop-i-init c = (search rules, λ n whole. (n, whole, omega arith, refl))
-
--- the entry that is looked at, among those of a log of n entries: it is entry k, and those behind it are for other links
-below : (c : In-loop-i) (n : ℕ) → length c.args.log.now ≡ n * 2
-    → (k : ℕ) × (c.loop-i.i - 2 ≡ k * 2)
-    × ((k < n) × (times c.args.l (entries n c.args.log.now) ≡ times c.args.l (entries (suc k) c.args.log.now)))
-below c n whole =
-    let log = c.args.log.now in
-    let l = c.args.l in
-    let at = c.loop-i.invariant.1 n whole in
-    next_below (λ k. (k ≤ n) × (times l (entries n log) ≡ times l (entries k log))) c.loop-i.i at.0 c.loop-i-test.true at.1 (at.2, at.3)
-
-pub returns-then-log-i : goal.returns-then-log-i
-returns-then-log-i c n whole a =
-    let here = c in
-    let start = here in
-    let at = below (goal.at.returns-then-log-i here).In-loop-i n whole in
-    passed_found start.args.l start.args.log.now n at.0 at.2.1 (here.loop-i.i - 2) at.1 c.if-log-i.true (start.requires n whole) at.2.0 a
-
-pub loop-i-preserved : goal.loop-i-preserved
-loop-i-preserved c =
-    let here = c in
-    let start = here in (
-      omega arith,
-      λ n whole.
-          let at = below (goal.at.loop-i-preserved here).In-loop-i n whole in (
-            at.0,
-            at.1,
-            omega (arith, at.2.0),
-            passed_more start.args.l start.args.log.now n at.0 at.2.1 (here.loop-i.i - 2) at.1 c.if-log-i.false,
-          ),
-    )
 
 pub returns : goal.returns
-unfolding times entries
 returns c n whole a =
-    let start = c in
-    let at = c.loop-i.invariant.1 n whole in
-    let first : at.0 ≡ 0 = omega (arith, at.1) in
-    old_in_absent start.args.l (entries n start.args.log.now) a (at.3 ∙ rw first refl)
+    let log = c.args.log.now in
+    let pairs : iter_rest c.iter.result ≡ first_chunks 2 n log =
+    c.iter.ensures.rest ∙ c.as_chunks.ensures.front ∙ ap (λ (k : ℕ). first_chunks 2 k log) (let half : length log / 2 ≡ n = omega arith in half) in
+    let found =
+    find_from_yields_List (is_for c.args.l) _ _ c.rfind.result c.rfind.ensures.ran
+    (YieldsList-from_shown iter_steps_back (λ y. y.now) (λ u. reverse (iter_rest u)) (λ u t p. length-reverse _ ∙ p.0)
+    (λ u x t p. ap reverse p ∙ reverse-append (iter_rest t) (x.now ∷ [])) c.iter.result)
+    (λ x b q k. search (rules, tests)) in
+    let mapped : c.map.result ≡ option_map old_of (option_map (λ x. x.now) c.rfind.result) = search (rules, tests) in
+    from_newest c.args.l log n n (le_refl n) refl (c.requires n whole) a
+    ∙ sym (ap (λ r. unwrap_or r a) (mapped ∙ ap (option_map old_of) (found ∙ ap (λ xs. find (is_for c.args.l) (reverse xs)) pairs)))

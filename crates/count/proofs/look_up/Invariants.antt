@@ -1,5 +1,4 @@
 -- The loop of `look_up`.
-use Prim.Native.Nat.{◌≤◌}
 use mathlib.Core.Path.{◌≡◌}
 use mathlib.Core.List.{flatten}
 use lib.ListN.{drop}
@@ -8,7 +7,4 @@ use Rattle.tables.specs.Lie.{logs_in}
 use Rattle.count.proofs.look_up.Given as goal
 
 abbrev pub invariant-loop-w : goal.invariant-loop-w
-invariant-loop-w l = (l.w ≤ l.s.w) × (times l.l (flatten (drop l.w (logs_in l.s l.logs l.lengths))) ≡ 0)
-
-abbrev pub decreases-loop-w : goal.decreases-loop-w
-decreases-loop-w l = l.w
+invariant-loop-w l = times l.l (flatten (drop l.w (logs_in l.s l.logs l.lengths))) ≡ 0

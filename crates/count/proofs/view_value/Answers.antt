@@ -11,24 +11,16 @@ use Rattle.count.proofs.view_value.Goals as goal
 use Rattle.count.proofs.view_value.Goals.{After-is_on}
 
 -- the mark that is tested is the link's
-marked : (c : After-is_on) (b : Bool) → c.is_on.result ≡ b → let at = c.args in
-    mark_at at.changed.now at.l.0 ≡ b
-marked c b e =
-    let at = c.args in
-    sym (c.is_on.ensures ∙ ap (mark_at at.changed.now) c.wide-link.ensures) ∙ e
-
-pub look_up-requires : goal.look_up-requires
-look_up-requires c = c.requires.3 (marked (goal.at.look_up-requires c).After-is_on true c.if-is_on.true)
+marked : (c : After-is_on) (b : Bool) → c.is_on.result ≡ b → mark_at c.args.changed.now c.args.l.0 ≡ b
+marked c b e = sym (c.is_on.ensures ∙ ap (mark_at c.args.changed.now) c.from-link.ensures) ∙ e
 
 pub returns-then-is_on : goal.returns-then-is_on
 returns-then-is_on c t x =
-    let start = c in
-    let at = start.args in
-    rw (view_logged at.s (views_on at.values.now at.changed.now at.logs.now at.lengths.now t) x at.l start.requires.0 (marked (goal.at.returns-then-is_on c).After-is_on true c.if-is_on.true)) c.look_up.ensures
+    let at = c.args in
+    rw (view_logged at.s (views_on at.values.now at.changed.now at.logs.now at.lengths.now t) x at.l c.requires.0 (marked (goal.at.returns-then-is_on c).After-is_on true c.if-is_on.true)) c.look_up.ensures
 
 pub returns : goal.returns
 returns c t x =
-    let start = c in
-    let at = start.args in
-    rw (view_plain at.s (views_on at.values.now at.changed.now at.logs.now at.lengths.now t) x at.l start.requires.0 (marked (goal.at.returns c).After-is_on false c.if-is_on.false))
-    (ap (λ (i : ℕ). record_number (get_or at.values.now i 0)) c.wide-link.ensures)
+    let at = c.args in
+    rw (view_plain at.s (views_on at.values.now at.changed.now at.logs.now at.lengths.now t) x at.l c.requires.0 (marked (goal.at.returns c).After-is_on false c.if-is_on.false))
+    (ap (λ (i : ℕ). record_number (get_or at.values.now i 0)) c.from-link.ensures)

@@ -1,35 +1,19 @@
--- `cycles::put_closed` meets its contract, by the tests of a close and of the room. Assumes nothing.
-use mathlib.Core.Path.{ap, ◌∙◌}
-use native.Mathlib.Omega.{arith}
-use lib.ListN.{length}
-use Rattle.cycles.specs.Cycles.{sum}
-use Rattle.cycles.specs.Slice.{closed_now}
-use Rattle.cycles.proofs.Placed.{long_put, closed_here, closed_past, closed_none}
+-- `cycles::put_closed` meets its contract, by whether a cycle closes and the test of the room. Assumes nothing.
+use Rattle.std.proofs.Common.{arith, ◌≡◌, pos, to_z, of_z, w64}
+use Rattle.std.proofs.lemmas.Int.{ints}
+use Rattle.cycles.proofs.Placed.{put_here, put_past}
 use Rattle.cycles.proofs.put_closed.Goals as goal
 use Rattle.cycles.proofs.put_closed.Goals.{then-cycles-numbers, else-cycles-numbers}
 
-pub put_cycle-requires : goal.put_cycle-requires
-put_cycle-requires c =
-    let start = c in
-    let few = start.requires.few in
-    record { at_in_bounds = omega arith; taken_bound = (omega (arith, ap (λ x. x.taken) c.closed_cycle.ensures, few.taken), omega (arith, ap (λ x. x.freed) c.closed_cycle.ensures, few.freed)) }
-
-pub returns-then-before-after : goal.returns-then-before-after
-returns-then-before-after c =
-    let start = c in
-    let at = start.args in
-    let close = c.if-before-after.true in
-    elim c.if-cycles-numbers.branch [
-      | then-cycles-numbers w ↦ closed_here at.cycles at.numbers.now at.t (sum at.counts.now) at.before at.after close w.if-cycles-numbers.true w.closed_cycle.ensures (w.numbers-is ∙ w.put_cycle.ensures)
-      | else-cycles-numbers w ↦ closed_past at.cycles at.numbers.now at.t (sum at.counts.now) at.before at.after close w.if-cycles-numbers.false w.numbers-is
-    ]
-
-pub shape_of-numbers-then-before-after : goal.shape_of-numbers-then-before-after
-shape_of-numbers-then-before-after c =
-    let at = c.args in
-    ap length (returns-then-before-after c).numbers ∙ long_put at.cycles at.numbers.now (closed_now at.t (sum at.counts.now) at.before at.after)
-
 pub returns : goal.returns
 returns c =
-    let at = c.args in
-    closed_none at.cycles at.numbers.now at.t (sum at.counts.now) at.before at.after c.if-before-after.false
+    let at = c.args.cycles in
+    let room = c.args.numbers.now in
+    let cycle = c.in-Some.c in
+    let few = rw c.in-Some.is at c.requires.few in
+    let taken : to_z w64 cycle.taken ≡ pos cycle.taken = omega (arith, ints, few.0) in
+    let freed : to_z w64 cycle.freed ≡ pos cycle.freed = omega (arith, ints, few.1) in
+    rw c.in-Some.is (elim c.if-cycles-numbers.branch [
+      | then-cycles-numbers w ↦ let net : to_z w64 (of_z w64 w.from.result) ≡ cycle.net = omega (arith, ints, w.from.ensures) in rw (w.numbers-is, w.copy_from_slice.ensures.after, taken, freed, net) (put_here at room cycle (omega arith) w.if-cycles-numbers.true)
+      | else-cycles-numbers w ↦ rw w.numbers-is (put_past at room cycle w.if-cycles-numbers.false)
+    ])

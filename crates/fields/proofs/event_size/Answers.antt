@@ -1,69 +1,58 @@
 -- `fields::event_size` meets its contract: each test of the code is one of what the bytes of an event field say. Assumes nothing.
-use mathlib.Core.Path.{sym, ◌∙◌}
+use mathlib.Core.Logic.{⊎_elim}
 use native.Mathlib.Omega.{arith}
 use Rattle.fields.specs.Field.{byte_at}
 use Rattle.fields.proofs.Tags.{tag_least, tag_most}
 use Rattle.fields.proofs.Event.{no_event_lem, event_stands}
 use Rattle.fields.proofs.event_size.Goals as goal
 
-pub returns-then-bytes-place : goal.returns-then-bytes-place
-returns-then-bytes-place c =
-    let at = c.args in
-    no_event_lem at.bytes.now at.place at.step (λ says. omega (arith, says.begins))
-
 pub returns-then-left-lt7 : goal.returns-then-left-lt7
 returns-then-left-lt7 c =
     let at = c.args in
     no_event_lem at.bytes.now at.place at.step (λ says. omega (arith, says.whole, tag_least (byte_at at.bytes.now at.place) says.known))
 
-pub returns-then-tag-eq1 : goal.returns-then-tag-eq1
-returns-then-tag-eq1 c =
+pub returns-then-tag-eq-SIZES_TAG : goal.returns-then-tag-eq-SIZES_TAG
+returns-then-tag-eq-SIZES_TAG c =
     let at = c.args in
-    no_event_lem at.bytes.now at.place at.step (λ says. says.no_sizes c.if-tag-eq1.true)
+    no_event_lem at.bytes.now at.place at.step (λ says. ⊎_elim says.no_sizes (λ other. says.no_end other.1) c.then-tag-eq-SIZES_TAG.either)
 
-pub returns-then-tag-eq127 : goal.returns-then-tag-eq127
-returns-then-tag-eq127 c =
+pub returns-in_err-payload : goal.returns-in_err-payload
+returns-in_err-payload c =
     let at = c.args in
-    no_event_lem at.bytes.now at.place at.step (λ says. says.no_end c.if-tag-eq127.true)
-
-pub returns-then-payload-eq0 : goal.returns-then-payload-eq0
-returns-then-payload-eq0 c =
-    let at = c.args in
-    no_event_lem at.bytes.now at.place at.step (λ says. says.known (sym c.payload_of-payload.ensures ∙ c.if-payload-eq0.true))
+    rw c.from_residual.ensures (no_event_lem at.bytes.now at.place at.step (λ says. says.known c.in_err-payload.ensures))
 
 pub overflow_add-payload : goal.overflow_add-payload
 overflow_add-payload c =
     let at = c.args in
-    omega (arith, tag_most (byte_at at.bytes.now at.place), c.payload_of-payload.ensures)
+    omega (arith, tag_most (byte_at at.bytes.now at.place), c.in_ok-payload.ensures.0)
 
 pub returns-then-left-payload : goal.returns-then-left-payload
 returns-then-left-payload c =
     let at = c.args in
-    no_event_lem at.bytes.now at.place at.step (λ says. omega (arith, says.whole, c.payload_of-payload.ensures))
+    no_event_lem at.bytes.now at.place at.step (λ says. omega (arith, says.whole, c.in_ok-payload.ensures.0))
 
-pub returns-then-two_at-payload : goal.returns-then-two_at-payload
-returns-then-two_at-payload c =
+pub returns-then-from-payload : goal.returns-then-from-payload
+returns-then-from-payload c =
     let at = c.args in
-    no_event_lem at.bytes.now at.place at.step
-    (λ says. c.if-two_at-payload.true (c.two_at.ensures ∙ says.long ∙ sym c.payload_of-payload.ensures))
+    no_event_lem at.bytes.now at.place at.step (λ says. c.if-from-payload.true (omega (arith, says.long)))
 
-pub returns-then-four_at-step : goal.returns-then-four_at-step
-returns-then-four_at-step c =
+pub returns-then-from : goal.returns-then-from
+returns-then-from c =
     let at = c.args in
-    no_event_lem at.bytes.now at.place at.step (λ says. c.if-four_at-step.true (c.four_at.ensures ∙ says.next))
+    no_event_lem at.bytes.now at.place at.step (λ says. c.if-from.true (omega (arith, says.next)))
 
 pub returns : goal.returns
 returns c =
     let at = c.args in
-    let tag = c.payload_of-payload.ensures in
-    event_stands at.bytes.now at.place at.step tag
+    let tag = c.in_ok-payload.ensures in
+    event_stands at.bytes.now at.place at.step tag.0
     (record {
       begins = omega arith;
-      known = λ none. c.if-payload-eq0.false (tag ∙ none);
-      no_sizes = c.if-tag-eq1.false;
-      no_end = c.if-tag-eq127.false;
-      long = sym c.two_at.ensures ∙ c.if-two_at-payload.false ∙ tag;
-      whole = omega (arith, tag);
-      next = sym c.four_at.ensures ∙ c.if-four_at-step.false;
+      known = λ none. omega (arith, tag.1);
+      no_sizes = c.if-tag-eq-SIZES_TAG.false;
+      no_end = c.if-tag-eq-END_TAG.false;
+      long = omega (arith, tag.0);
+      whole = omega (arith, tag.0);
+      next = omega arith;
     })
     (omega arith)

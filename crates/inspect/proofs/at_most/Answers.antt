@@ -1,24 +1,16 @@
--- `inspect::at_most` meets its contract. The loop's invariant: the numbers passed are tested. Assumes nothing.
+-- `inspect::at_most` meets its contract: `every_folded`. Assumes nothing.
 use Prim.Native.Nat.{ℕ}
-use mathlib.Core.Path.{refl}
+use mathlib.Core.Path.{◌≡◌, ◌∙◌}
+use mathlib.Core.Bool.{true, ◌&&◌}
 use native.Mathlib.Omega.{arith}
-use borrow.Author.Rules.{rules}
 use lib.Dec.{leb}
-use Rattle.clauses.specs.IsSound.{every}
-use Rattle.inspect.proofs.Tested.{every_more, every_all}
+use Rattle.std.proofs.Common.{fold}
+use Rattle.std.proofs.lemmas.Grind.{common_steps}
+use Rattle.inspect.proofs.Tested.{every_folded}
 use Rattle.inspect.proofs.at_most.Goals as goal
-
-pub loop-i-init : goal.loop-i-init
-unfolding every
-loop-i-init c = (search rules, refl)
-
-pub loop-i-preserved : goal.loop-i-preserved
-loop-i-preserved c =
-    let at = c.loop-i in
-    let start = c in
-    (omega arith, every_more (λ (n : ℕ). leb n start.args.most) start.args.xs.now at.i at.invariant.1 0 (omega arith))
 
 pub returns : goal.returns
 returns c =
-    let start = c in
-    every_all (λ (n : ℕ). leb n start.args.most) start.args.xs.now c.loop-i.i c.loop-i.invariant.1 (omega arith)
+    let low = λ (x : ℕ). leb x c.args.most in
+    let folded : c.fold.result ≡ fold (λ ok x. ok && low x) true c.args.xs.now = grind (arith, common_steps) in
+    folded ∙ every_folded low c.args.xs.now

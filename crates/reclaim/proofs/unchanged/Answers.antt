@@ -1,42 +1,30 @@
--- `reclaim::unchanged` meets its contract. The loop's invariant: the changed mark of every link passed is off. Assumes nothing.
-use mathlib.Core.Path.{◌≡◌, sym, ap, ◌∙◌}
+-- `reclaim::unchanged` meets its contract: a mark of the record's word is on, or none is. Assumes nothing.
+use Prim.Native.Nat.{ℕ}
+use mathlib.Core.Path.{◌≡◌, refl, sym, ◌∙◌}
+use mathlib.Core.Bool.{true, false}
 use native.Mathlib.Omega.{arith}
-use borrow.Author.Count.{below_more}
-use Rattle.rules.specs.Size.{link_number}
-use Rattle.tables.specs.Bits.{mark_at}
+use lib.ListN.{get_or}
+use borrow.Author.Rules.{rules}
+use borrow.Author.Tests.{tests}
+use Rattle.std.proofs.lemmas.Iterator.{serves_from_Range, cases_from_all, YieldsList-from_range}
+use Rattle.tables.specs.Bits.{digits}
+use Rattle.laws.proofs.Number.{bounds}
 use Rattle.reclaim.proofs.Found.{links-unchanged, link_changed}
+use Rattle.reclaim.proofs.Ranges.{all_below}
 use Rattle.reclaim.proofs.unchanged.Goals as goal
-use Rattle.reclaim.proofs.unchanged.Goals.{After-is_on}
 
-pub loop-f-init : goal.loop-f-init
-loop-f-init c = (omega arith, λ g low. absurd (omega arith))
-
-pub link_number-requires : goal.link_number-requires
-link_number-requires c =
-    let of-pool = c.requires.0 in
-    (of-pool.sizes, of-pool.some, of-pool.low, omega arith)
-
--- what the test says
-changed_is : (c : After-is_on) → let start = c.args in
-    c.is_on.result ≡ mark_at start.changed.now (link_number start.s start.a c.loop-f.f).0
-changed_is c =
-    let start = c.args in
-    c.is_on.ensures ∙ ap (mark_at start.changed.now) (c.wide.ensures ∙ ap (λ l. l.0) c.link_number.ensures.0)
-
-pub returns-then-is_on : goal.returns-then-is_on
-returns-then-is_on c t c' =
-    let start = c.args in
-    let f = c.loop-f.f in
-    let of-pool = c.requires.0 in
-    sym (link_changed start.s _ c' start.a of-pool.some of-pool.low f (omega arith) (sym (changed_is (goal.at.returns-then-is_on c).After-is_on) ∙ c.if-is_on.true))
-
-pub loop-f-preserved : goal.loop-f-preserved
-loop-f-preserved c =
-    let at = c.loop-f in
-    (omega arith, below_more _ _ at.invariant.1 (sym (changed_is (goal.at.loop-f-preserved c).After-is_on) ∙ c.if-is_on.false))
+pub all-requires-clause-callable : goal.all-requires-clause-callable
+all-requires-clause-callable c =
+    serves_from_Range (λ x q k. search (rules, tests)) (λ x low high. omega (arith, high, c.from.ensures, (bounds c.args.s c.requires.0.sizes).k_most))
 
 pub returns : goal.returns
 returns c t c' =
-    let start = c.args in
     let of-pool = c.requires.0 in
-    sym (links-unchanged start.s _ c' start.a of-pool.some of-pool.low (λ f low. c.loop-f.invariant.1 f (omega arith)))
+    let marks = c.link_marks-marks in
+    let off = λ (f : ℕ). get_or (digits 64 marks.result) f false ≡ false in
+    let on = λ (f : ℕ). get_or (digits 64 marks.result) f false ≡ true in
+    all_below c.args.s.k off on _ _
+    (cases_from_all _ _ _ off on
+    c.all.ensures.ran (YieldsList-from_range 0 c.from.result c.args.s.k refl (omega (arith, c.from.ensures))) (λ x q k. search (rules, tests)) (λ x q k. search (rules, tests)))
+    (λ h. links-unchanged c.args.s _ c' c.args.a of-pool.some of-pool.low (λ f low. sym (marks.ensures f low) ∙ h f low))
+    (λ f low h. link_changed c.args.s _ c' c.args.a of-pool.some of-pool.low f low (sym (marks.ensures f low) ∙ h))

@@ -1,80 +1,11 @@
--- `tally::report_trace` meets its contract: an accepted sizes field goes to `report_sized`, and anything else is refused with no table changed. Assumes nothing.
-use mathlib.Core.Path.{◌∙◌}
-use mathlib.Core.List.{[]}
-use Rattle.tables.specs.Tables.{Tables, lent}
-use Rattle.trace.proofs.Whole.{first_range, first_only}
-use Rattle.tally.proofs.Whole.{traced_reports, unsized_reports}
+-- `tally::report_trace` meets its contract: `Cycles` is told of the trace from no cycle on. Assumes nothing.
+use Rattle.std.proofs.Common.{rules}
+use Rattle.tables.specs.Lent.{contents}
+use Rattle.tally.proofs.Whole.{same_name, told_reports}
 use Rattle.tally.proofs.report_trace.Goals as goal
-use Rattle.tally.proofs.report_trace.Goals.{Start}
 
-abbrev here : Start → Tables
-here start =
-    let at = start.args in
-    lent at.used.now at.counts.now at.held.now at.candidates.now at.makers.now at.values.now at.changed.now at.registers.now at.snoops.now at.logs.now at.history.now at.lengths.now
-
-pub report_sized-requires : goal.report_sized-requires
-report_sized-requires c =
-    let read = c in
-    let start = c in
-    first_range (here (goal.at.report_sized-requires start).Start) start.args.c start.args.bytes.now [] read.read_at-first.ensures c.in-Sizes.is
-
-pub shape_of-used : goal.shape_of-used
-shape_of-used c = c.used-1.given
-
-pub shape_of-counts : goal.shape_of-counts
-shape_of-counts c = c.counts-1.given
-
-pub shape_of-held : goal.shape_of-held
-shape_of-held c = c.held-1.given
-
-pub shape_of-candidates : goal.shape_of-candidates
-shape_of-candidates c = c.candidates-1.given
-
-pub shape_of-makers : goal.shape_of-makers
-shape_of-makers c = c.makers-1.given
-
-pub shape_of-values : goal.shape_of-values
-shape_of-values c = c.values-1.given
-
-pub shape_of-changed : goal.shape_of-changed
-shape_of-changed c = c.changed-1.given
-
-pub shape_of-registers : goal.shape_of-registers
-shape_of-registers c = c.registers-1.given
-
-pub shape_of-snoops : goal.shape_of-snoops
-shape_of-snoops c = c.snoops-1.given
-
-pub shape_of-logs : goal.shape_of-logs
-shape_of-logs c = c.logs-1.given
-
-pub shape_of-history : goal.shape_of-history
-shape_of-history c = c.history-1.given
-
-pub shape_of-lengths : goal.shape_of-lengths
-shape_of-lengths c = c.lengths-1.given
-
-pub shape_of-numbers : goal.shape_of-numbers
-shape_of-numbers c = c.numbers-1.given
-
-pub returns-in-Sizes : goal.returns-in-Sizes
-returns-in-Sizes c =
-    let read = c in
-    let start = c in
-    traced_reports (here (goal.at.returns-in-Sizes start).Start) start.args.c start.args.bytes.now start.args.numbers.now read.read_at-first.ensures c.in-Sizes.is
-    ∙ c.report_sized.ensures
-
-pub returns-in-Refused : goal.returns-in-Refused
-returns-in-Refused c =
-    let read = c in
-    let start = c in
-    unsized_reports (here (goal.at.returns-in-Refused start).Start) start.args.c start.args.bytes.now start.args.numbers.now read.read_at-first.ensures c.in-Refused.is c.unreported.ensures
-
-pub returns-in_default : goal.returns-in_default
-returns-in_default c =
-    let read = c in
-    let start = c in
-    absurd
-    (first_only (here (goal.at.returns-in_default start).Start) start.args.c start.args.bytes.now [] read.read_at-first.ensures
-    c.in_default.not-Sizes
-    c.in_default.not-Refused)
+pub returns-clause-done : goal.returns-clause-done
+returns-clause-done c =
+    let same = same_name (contents c.args.t.now) c.args.bytes.now _ c.trace_told-replay.ensures.told in
+    let report = told_reports (contents c.args.t.now) c.args.bytes.now _ c.trace_told-replay.ensures.told c.args.c c.default.ensures.1 c.trace_told-replay.ensures.done in
+    search rules

@@ -1,73 +1,32 @@
--- `text::put_lines` meets its contract. The loop's invariant: the lines of the events that are left, written from `at` on, complete the text; a line is given 24
--- bytes, 12 for each number of `answers`; and the digits are those of the last step. Assumes nothing.
-use Prim.Native.Nat.{◌+◌, ◌<◌}
-use mathlib.Core.Path.{refl, sym, ap, ◌∙◌}
-use native.Mathlib.Omega.{arith}
-use lib.ListN.{length, get_or}
-use lib.Seq.{length-take-le}
-use Rattle.text.specs.Text.{line_text, Written}
-use Rattle.text.proofs.Digits.{decimal_some, decimal_most}
-use Rattle.text.proofs.Lines.{line_most, lines_next, lines_all}
-use Rattle.text.proofs.Written.{written_rest, written_same, written_start}
+-- `text::put_lines` meets its contract: a turn puts the first of the lines that are left, of which each has 24 bytes at most, 12 for each number of `answers`. Assumes
+-- nothing.
+use Rattle.std.proofs.Common.{rules, arith, ap, length, ◌+◌, ◌*◌, ◌/◌, ◌<◌}
+use Rattle.text.proofs.Lines.{line_most, number_at, value_at, number_is, value_is, next_line, no_line}
+use Rattle.text.proofs.Puts.{puts_next, ends}
 use Rattle.text.proofs.put_lines.Goals as goal
 
-pub loop-i-init : goal.loop-i-init
-loop-i-init c =
-    let put = c.put_decimal-places.ensures in (
-      refl,
-      omega arith,
-      omega arith,
-      omega arith,
-      record { place = omega arith; bytes = refl },
-      written_same put,
-      written_start _ put (omega (arith, put.place, decimal_most 19 c.args.step (omega arith))),
-    )
-
-pub slice_bounds-count_up-end : goal.slice_bounds-count_up-end
-slice_bounds-count_up-end c = sym c.loop-i.invariant.5
-
-pub count_up-places-requires : goal.count_up-places-requires
-count_up-places-requires c = let at = c.loop-i in (at.invariant.6, omega (arith, at.invariant.5), omega arith)
-
-pub slice_bounds-digits-end : goal.slice_bounds-digits-end
-slice_bounds-digits-end c = c.count_up-places.ensures.inside
-
-pub slice_bounds-put_line-end : goal.slice_bounds-put_line-end
-slice_bounds-put_line-end c = let count = c.count_up-places in sym (length-take-le count.result count.new.digits count.ensures.inside)
-
-pub put_line-at-requires : goal.put_line-at-requires
-put_line-at-requires c =
-    let count = c.count_up-places in
-    let at = c.loop-i in
-    let digits = ap length count.ensures.bytes in
-    (omega arith, omega (arith, digits, decimal_some (at.last + 1)), omega (arith, digits, decimal_most 19 (at.last + 1) (omega arith)))
-
-pub loop-i-preserved : goal.loop-i-preserved
-unfolding line_text
-loop-i-preserved c =
-    let at = c.loop-i in
+pub loop-number-preserved : goal.loop-number-preserved
+loop-number-preserved c =
+    let at = c.loop-number in
+    let i = at.number-index in
     let answers = c.args.answers.now in
-    let count = c.count_up-places in
-    let known = c.shared_slice_known-in-loop-i-2-1.given in
-    let next : at.i + 1 < length answers = omega arith in
-    let put : Written at.out at.at (line_text (at.last + 1) (get_or answers at.i 0) (get_or answers (at.i + 1) 0)) c.put_line-at.result c.put_line-at.new.out =
-    rw count.ensures.bytes at c.put_line-at.ensures in
-    let line = line_most (at.last + 1) (get_or answers at.i 0) (get_or answers (at.i + 1) 0) (omega arith) (known at.i).fits (known (at.i + 1)).fits in (
-      omega arith,
-      omega arith,
-      omega arith,
-      omega (arith, line, put.place),
-      written_rest put (rw (lines_next at.last answers at.i next) at at.invariant.4),
-      count.auto.digits ∙ at.invariant.5,
-      count.ensures,
-    )
-
-pub shape_of-out : goal.shape_of-out
-shape_of-out c = c.loop-i.invariant.0
+    let pairs = c.as_chunks.result.0.now in
+    let front = c.as_chunks.ensures.front in
+    let here : i < length answers / 2 = omega (arith, c.as_chunks.ensures.front_len) in
+    let few-digits = line_most c.up.new.self.number (number_at answers pairs i front here) (value_at answers pairs i front here) (omega (arith, c.up.ensures)) in
+    let line = few-digits (omega (arith, number_is answers pairs i front here, (c.type_inv.answers (i * 2)).fits)) (omega (arith, value_is answers pairs i front here, (c.type_inv.answers (i * 2 + 1)).fits)) in
+    record {
+      same = search rules;
+      long = search rules;
+      few = omega (arith, line, c.put_line.ensures.len, at.invariant.few);
+      counted = omega (arith, c.up.ensures, at.invariant.counted);
+      wrote =
+          puts_next _ c.put_line.ensures
+          (rw (c.up.ensures, ← next_line answers pairs i front here at.last.number) at.invariant.wrote);
+    }
 
 pub returns : goal.returns
 returns c =
-    let at = c.loop-i in
-    let start = c in
-    let all = rw (lines_all at.last start.args.answers.now at.i (omega arith)) at at.invariant.4 in
-    written_start start.args.out.now (record { place = omega arith; bytes = sym all.bytes }) (omega arith)
+    let at = c.loop-number in
+    ends at.w at.invariant.wrote (no_line at.last.number c.args.answers.now _ (omega (arith, c.requires.events_behind.1, c.as_chunks.ensures.front_len))) (search rules) c.len.ensures
+    (omega (arith, at.invariant.few, at.invariant.long, ap length c.new-w.ensures.out, c.requires.answers_in_bounds, c.as_chunks.ensures.front_len))

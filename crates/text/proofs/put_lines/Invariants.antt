@@ -1,20 +1,18 @@
--- The loop of `put_lines`.
-use Prim.Native.Nat.{◌+◌, ◌-◌, ◌*◌, ◌≤◌}
+-- The loop of `put_lines`: what is written and the lines of the events that are left are all.
+use Prim.Native.Nat.{◌+◌, ◌*◌, ◌≤◌}
 use mathlib.Core.Path.{◌≡◌}
+use mathlib.Core.List.{◌++◌}
 use lib.ListN.{length, drop}
-use lib.Seq.{sets}
-use Rattle.text.specs.Text.{decimal, lines_text, Written, StartsWith}
+use Rattle.text.specs.Text.{lines_text}
+use Rattle.text.specs.Writer.{written}
 use Rattle.text.proofs.put_lines.Given as goal
 
-abbrev pub invariant-loop-i : goal.invariant-loop-i
-invariant-loop-i l =
-    (length l.out ≡ length l.initial.out)
-    × (l.i ≤ length l.answers)
-    × (l.last * 2 ≡ l.step * 2 + l.i)
-    × (l.at ≤ l.i * 12)
-    × Written l.out l.at (lines_text l.last (drop l.i l.answers)) (length (lines_text l.step l.answers)) (sets l.initial.out 0 (lines_text l.step l.answers))
-    × (length l.digits ≡ 20)
-    × StartsWith l.digits l.places (decimal l.last)
-
-abbrev pub decreases-loop-i : goal.decreases-loop-i
-decreases-loop-i l = length l.answers - l.i
+abbrev pub invariant-loop-number : goal.invariant-loop-number
+invariant-loop-number l =
+    record {
+      same : l.w.out.ghost_name ≡ l.initial.w.out.ghost_name;
+      long : length l.w.out.now ≡ length l.initial.w.out.now;
+      few : l.w.len ≤ l.number-index * 24;
+      counted : l.last.number ≡ l.step + l.number-index;
+      wrote : written l.w ++ lines_text l.last.number (drop (l.number-index * 2) l.answers) ≡ lines_text l.step l.answers;
+    }

@@ -1,39 +1,12 @@
 -- `text::put_refused` meets its contract: the word and the two numbers are written one behind the other. Assumes nothing.
-use native.Mathlib.Omega.{arith}
-use lib.ListN.{length-set}
-use Rattle.text.specs.Text.{refused_word, refused_text}
-use Rattle.text.proofs.Lines.{last_line_lem}
+use Rattle.std.proofs.Common.{rules, arith, ap, length}
+use Rattle.text.specs.Text.{refused_text}
+use Rattle.text.proofs.Lines.{two_most}
+use Rattle.text.proofs.Puts.{puts_both, starts}
 use Rattle.text.proofs.put_refused.Goals as goal
-
-pub bounds-out-1 : goal.bounds-out-1
-bounds-out-1 c = simp length-set (omega arith)
-
-pub bounds-out-2 : goal.bounds-out-2
-bounds-out-2 c = simp length-set (omega arith)
-
-pub bounds-out-3 : goal.bounds-out-3
-bounds-out-3 c = simp length-set (omega arith)
-
-pub bounds-out-4 : goal.bounds-out-4
-bounds-out-4 c = simp length-set (omega arith)
-
-pub bounds-out-5 : goal.bounds-out-5
-bounds-out-5 c = simp length-set (omega arith)
-
-pub bounds-out-6 : goal.bounds-out-6
-bounds-out-6 c = simp length-set (omega arith)
-
-pub bounds-out-7 : goal.bounds-out-7
-bounds-out-7 c = simp length-set (omega arith)
-
-pub put_two-requires : goal.put_two-requires
-put_two-requires c = simp length-set (omega arith)
-
-pub shape_of-out : goal.shape_of-out
-shape_of-out c = simp length-set at c.put_two.auto.out
 
 pub returns : goal.returns
 unfolding refused_text
 returns c =
-    let args = c.args in
-    last_line_lem args.out.now refused_word args.number args.place (omega arith) (omega arith) (omega arith) c.put_two.ensures
+    starts c.new-w.ensures.len (puts_both c.put.ensures (rw (c.from.ensures) at c.put_two.ensures))
+    (omega (arith, two_most c.args.number c.args.place, ap length c.new-w.ensures.out, c.requires)) (search rules) c.len.ensures

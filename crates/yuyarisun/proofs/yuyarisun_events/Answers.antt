@@ -1,47 +1,17 @@
 -- The call of `many`, in numbers.
+use Rattle.std.proofs.Common.{rules}
+use Rattle.tables.specs.Tables.{lent}
+use Rattle.tables.specs.Lent.{contents}
+use Rattle.many.specs.Many.{many_on}
+use Rattle.yuyarisun.specs.Exported.{sizes_of}
 use Rattle.yuyarisun.proofs.InNumbers.{many_in_numbers}
 use Rattle.yuyarisun.proofs.yuyarisun_events.Goals as goal
 
-pub shape_of-used : goal.shape_of-used
-shape_of-used c = c.used-1.given
-
-pub shape_of-counts : goal.shape_of-counts
-shape_of-counts c = c.counts-1.given
-
-pub shape_of-held : goal.shape_of-held
-shape_of-held c = c.held-1.given
-
-pub shape_of-candidates : goal.shape_of-candidates
-shape_of-candidates c = c.candidates-1.given
-
-pub shape_of-makers : goal.shape_of-makers
-shape_of-makers c = c.makers-1.given
-
-pub shape_of-values : goal.shape_of-values
-shape_of-values c = c.values-1.given
-
-pub shape_of-changed : goal.shape_of-changed
-shape_of-changed c = c.changed-1.given
-
-pub shape_of-registers : goal.shape_of-registers
-shape_of-registers c = c.registers-1.given
-
-pub shape_of-snoops : goal.shape_of-snoops
-shape_of-snoops c = c.snoops-1.given
-
-pub shape_of-logs : goal.shape_of-logs
-shape_of-logs c = c.logs-1.given
-
-pub shape_of-history : goal.shape_of-history
-shape_of-history c = c.history-1.given
-
-pub shape_of-lengths : goal.shape_of-lengths
-shape_of-lengths c = c.lengths-1.given
-
-pub shape_of-answers : goal.shape_of-answers
-shape_of-answers c = c.answers-1.given
-
 pub returns : goal.returns
 returns c =
-    let call = c in
-    many_in_numbers _ call.many_events-x.result _ _ _ _ call.many_events-x.ensures c.rest_number.ensures c.rest_place.ensures
+    let at = c.args in
+    let tables = lent at.used.now at.counts.now at.held.now at.candidates.now at.makers.now at.values.now at.changed.now at.registers.now at.snoops.now at.logs.now at.history.now at.lengths.now in
+    let done =
+    many_in_numbers c.set.new.self c.get.ensures (λ k. many_on (sizes_of at.n at.k at.w at.r at.b) tables k at.bytes.now at.step.now at.answers.now) c.many_events-x.result (contents c.many_events-x.new.t) c.many_events-x.new.answers
+    c.stopped.result c.stopped.new.place c.many_events-x.ensures.done c.stopped.ensures.number c.stopped.ensures.place c.set.ensures.set in
+    search rules

@@ -1,48 +1,16 @@
 -- The call of `trace`, in numbers.
+use Rattle.std.proofs.Common.{rules}
+use Rattle.tables.specs.Tables.{lent}
+use Rattle.tables.specs.Lent.{contents}
+use Rattle.trace.specs.Traced.{traced}
 use Rattle.yuyarisun.proofs.InNumbers.{trace_in_numbers}
 use Rattle.yuyarisun.proofs.yuyarisun_trace.Goals as goal
 
-pub shape_of-used : goal.shape_of-used
-shape_of-used c = c.used-1.given
-
-pub shape_of-counts : goal.shape_of-counts
-shape_of-counts c = c.counts-1.given
-
-pub shape_of-held : goal.shape_of-held
-shape_of-held c = c.held-1.given
-
-pub shape_of-candidates : goal.shape_of-candidates
-shape_of-candidates c = c.candidates-1.given
-
-pub shape_of-makers : goal.shape_of-makers
-shape_of-makers c = c.makers-1.given
-
-pub shape_of-values : goal.shape_of-values
-shape_of-values c = c.values-1.given
-
-pub shape_of-changed : goal.shape_of-changed
-shape_of-changed c = c.changed-1.given
-
-pub shape_of-registers : goal.shape_of-registers
-shape_of-registers c = c.registers-1.given
-
-pub shape_of-snoops : goal.shape_of-snoops
-shape_of-snoops c = c.snoops-1.given
-
-pub shape_of-logs : goal.shape_of-logs
-shape_of-logs c = c.logs-1.given
-
-pub shape_of-history : goal.shape_of-history
-shape_of-history c = c.history-1.given
-
-pub shape_of-lengths : goal.shape_of-lengths
-shape_of-lengths c = c.lengths-1.given
-
-pub shape_of-answers : goal.shape_of-answers
-shape_of-answers c = c.answers-1.given
-
 pub returns : goal.returns
 returns c =
-    let call = c in
-    trace_in_numbers _ call.replay_trace-x.result _ _ _ _ _ call.replay_trace-x.ensures c.ending_number.ensures c.ending_free.ensures
-    c.ending_place.ensures
+    let at = c.args in
+    let tables = lent at.used.now at.counts.now at.held.now at.candidates.now at.makers.now at.values.now at.changed.now at.registers.now at.snoops.now at.logs.now at.history.now at.lengths.now in
+    let done =
+    trace_in_numbers c.set.new.self c.get.ensures (λ k. traced tables k at.bytes.now at.answers.now) c.replay_trace-x.result (contents c.replay_trace-x.new.t) c.replay_trace-x.new.answers
+    c.ended.result c.ended.new.free c.ended.new.place c.replay_trace-x.ensures.done c.ended.ensures.number c.ended.ensures.free c.ended.ensures.place c.set.ensures.set in
+    search rules

@@ -1,47 +1,18 @@
--- `tables::mark::keep_standing` meets its contract. The loop's invariant: the words passed are those of the result, the others as they were. Assumes nothing.
-use Prim.Native.Nat.{ℕ, ◌-◌, ◌*◌, ◌^◌, ◌<◌}
-use mathlib.Core.Path.{◌≡◌, refl, ap, ◌∙◌}
-use mathlib.Core.List.{List}
-use native.Mathlib.Omega.{arith}
+-- `tables::mark::keep_standing` meets its contract, word by word. Assumes nothing.
+use Prim.Native.Nat.{ℕ, ◌*◌, ◌<◌}
+use mathlib.Core.Path.{◌≡◌}
+use borrow.Author.Rules.{rules}
 use lib.Bits.{bit_and}
-use lib.ListN.{length, get_or, drop, set, length-set, length-drop}
-use lib.Seq.{paste, paste-zero, take_all}
-use Rattle.laws.proofs.Lists.{Each-places}
-use Rattle.tables.specs.Bits.{number, stands, only_standing}
-use Rattle.tables.proofs.Standing.{and_word, length_only, pasted_here, pasted_next, pasted_all}
+use lib.ListN.{length, get_or, drop}
+use Rattle.tables.specs.Bits.{number, stands}
+use Rattle.tables.proofs.Standing.{only_words}
 use Rattle.tables.proofs.mark.keep_standing.Goals as goal
-
-pub loop-i-init : goal.loop-i-init
-loop-i-init c = (omega arith, refl, paste-zero c.args.words.now 0 (only_standing c.args.x c.args.numbers.now c.args.words.now))
-
-pub loop-i-preserved : goal.loop-i-preserved
-loop-i-preserved c =
-    let at = c.loop-i in
-    let start = c in
-    let words = start.args.words.now in
-    let numbers = start.args.numbers.now in
-    let x = start.args.x in
-    let after : List ℕ = only_standing x numbers words in
-    let i = at.i in
-    let inside : i < length words = omega arith in
-    let part : c.standing.result ≡ number 64 (stands x (drop (i * 64) numbers)) =
-    c.standing.ensures ∙ ap (λ (ns : List ℕ). number 64 (stands x ns)) (take_all (length numbers - i * 64) (drop (i * 64) numbers) (omega (arith, length-drop (i * 64) numbers))) in (
-      omega arith,
-      length-set at.words i _ ∙ at.invariant.1,
-      ap (λ (ws : List ℕ). set ws i (bit_and (get_or ws i 0) c.standing.result)) at.invariant.2
-          ∙ ap (set (paste words 0 after i) i)
-          ((λ j. bit_and (pasted_here words after (length_only x numbers words) i inside j) (part j))
-          ∙ and_word x numbers words (Each-places (λ w. w < 2 ^ 64) 0 words (λ k h. (c.slice_known-1.given k).fits)) i inside)
-          ∙ pasted_next words after (length_only x numbers words) i inside,
-    )
-
-pub shape_of-words : goal.shape_of-words
-shape_of-words c = c.loop-i.invariant.1
 
 pub returns : goal.returns
 returns c =
-    let at = c.loop-i in
-    let start = c in
-    let words = start.args.words.now in
-    at.invariant.2
-    ∙ pasted_all words (only_standing start.args.x start.args.numbers.now words) (length_only start.args.x start.args.numbers.now words) at.i (omega arith)
+    let words = c.args.words.now in
+    let numbers = c.args.numbers.now in
+    let x = c.args.x in
+    let each : (i : ℕ) → i < length words → get_or c.join_standing.new.words i 0 ≡ bit_and (get_or words i 0) (number 64 (stands x (drop (i * 64) numbers))) =
+    λ i h. let k = c.join_standing.ensures i h in search rules in
+    only_words x numbers words c.join_standing.new.words (λ i. (c.slice_known-1.given i).fits) c.join_standing.auto.words each

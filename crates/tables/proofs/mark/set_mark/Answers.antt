@@ -7,10 +7,9 @@ use Rattle.tables.proofs.mark.set_mark.Goals as goal
 
 pub returns : goal.returns
 returns c =
-    let start = c in
-    let words = start.args.words.now in
-    word_marked words start.args.place c.with_bit.result start.args.on
+    let words = c.args.words.now in
+    word_marked words c.args.place c.with_bit.result c.args.on
     (Each-places (λ x. x < 2 ^ 64) 0 words (λ i h. (c.slice_known-1.given i).fits))
     (omega arith)
-    start.requires
+    c.requires
     c.with_bit.ensures

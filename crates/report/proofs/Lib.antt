@@ -1,3 +1,0 @@
--- What the proof of the program cites.
---     Turn      a turn of the program
-pub mod Turn
