@@ -1,10 +1,11 @@
 -- The search for the one entry of a link, through a log and through all logs.
+--     next_below                    an entry before another
 --     passed_found, passed_more     the entries passed are for other links; the next is for the link, or for another too
 --     told_by, from_newest          what the first pair of numbers for the link tells; of a log, from its newest entry down, it is what its entries say
 --     told, told_nothing            what entries say of a link tells whether one of them is for it
 --     look_up_one, look_up_found, look_up_more, look_up_none     no log that is passed has the one entry; the next has it, or not; none is passed at first
 -- None of these laws tells which entry is found where two are for the link. Assumes nothing.
-use Prim.Native.Nat.{ℕ, zero, suc, ◌+◌, ◌*◌, ◌≤◌, ◌<◌}
+use Prim.Native.Nat.{ℕ, zero, suc, ◌+◌, ◌-◌, ◌*◌, ◌≤◌, ◌<◌}
 use mathlib.Core.Path.{◌≡◌, refl, sym, ap, ◌∙◌}
 use mathlib.Core.Logic.{⊎_elim}
 use mathlib.Core.Bool.{Bool, true, false, cond}
@@ -31,6 +32,11 @@ use Rattle.laws.proofs.LookUp.{times_logs, look_up_first}
 use Rattle.tables.proofs.Rooms.{entries-take, entries_next}
 
 -- ---- through a log, from its end
+
+-- a place that is not the first has an entry before it
+pub next_below : (P : ℕ → Type 0) (i k : ℕ) → 1 < i → i ≡ k * 2 → P k → (j : ℕ) × (i - 2 ≡ j * 2) × P (suc j)
+next_below P i zero more place h = absurd (omega arith)
+next_below P i (suc j) more place h = (j, omega arith, h)
 
 chunks_push : (k : ℕ) (room : List ℕ) → first_chunks 2 (suc k) room ≡ first_chunks 2 k room ++ (take 2 (drop (k * 2) room) ∷ [])
 chunks_push zero room = refl

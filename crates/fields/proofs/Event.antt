@@ -5,10 +5,10 @@
 -- Assumes nothing.
 use Prim.Native.Nat.{ℕ, ◌+◌, ◌≤◌, ◌<◌}
 use mathlib.Core.Path.{◌≡◌, refl, sym, ap, subst, ◌∙◌}
-use mathlib.Core.Bool.{Bool, true, false}
+use mathlib.Core.Bool.{Bool, true, false, not}
 use mathlib.Core.List.{List}
 use native.Mathlib.Omega.{arith}
-use borrow.Author.Tests.{ltb-false, eqb-true, eqb-false, ne_eqb, not-false}
+use borrow.Author.Tests.{ltb-false, eqb-true, eqb-false, eq-eqb, ne_eqb, not-false}
 use lib.Dec.{eqb}
 use lib.ListN.{length}
 use Rattle.std.specs.Prelude.{Result, Ok, None, Some}
@@ -91,7 +91,7 @@ module _ (bytes : List ℕ) (place step : ℕ) where
       let from : place + 7 ≡ place + 3 + 4 = omega arith in
       sym
       (ap (λ n. Ok (behind n)) on
-      ∙ ap (placed place) (event_read_lem bytes place reader says_so says.no_sizes says.no_end (sym says.next) refl (ap (event_at tag bytes) from)
+      ∙ ap (placed place) (event_read_lem bytes place reader false says_so says.no_sizes (sym says.next) says.no_end (ap (event_at tag bytes) from) (ap not (eq-eqb (step + 1) (step + 1) refl))
       ∙ payload_whole head (omega (arith, length-is, says.whole)))
       ∙ read_stage bytes place reader Events refl)
     where

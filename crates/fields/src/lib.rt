@@ -324,7 +324,7 @@ pub fn read_at(bytes: &[u8], place: usize, reader: Reader) -> Result<Read, Refus
 pub fn event_size(bytes: &[u8], place: usize, step: u32) -> Option<usize>
     ensures { EventSized bytes.now place step result }
 {
-    let left = bytes.len().saturating_sub(place);
+    let left = bytes.len().checked_sub(place)?;
     if left < 7 {
         return None;
     }
@@ -333,13 +333,14 @@ pub fn event_size(bytes: &[u8], place: usize, step: u32) -> Option<usize>
         return None;
     }
     let payload = payload_of(tag)?;
-    if left < 3 + payload {
-        return None;
-    }
     if usize::from(two_at(bytes, place + 1)) != payload {
         return None;
     }
     if u64::from(four_at(bytes, place + 3)) != u64::from(step) + 1 {
+        return None;
+    }
+    // Last, for the last test decides the size without a branch: so the next place waits for a length that is known, and not for the bytes of the number.
+    if left < 3 + payload {
         return None;
     }
     Some(3 + payload)

@@ -1,7 +1,7 @@
 // Phases 0 to 4 of the collector, each on the tables that it touches, of a pool that is known to be sound. All of it is inner (decision 4 of
 // docs/DECISIONS.md).
 //     opens, snoops, takes, clears, scans    the steps; each has the name of its definition in rules/specs/Collect.antt
-//     made_by, clear_maker, held_by          what phases 2 and 4 do to the records
+//     made_by, clear_maker, held_by          what phases 2 and 4 do to the records; copy: a log's entries to their place in the history
 // Each function is lent only the tables that it touches, each as a parameter of its own: a rule of this project (decision 26), so that its contract says of no other table
 // anything.
 #![tactic(auto)]
@@ -14,7 +14,7 @@ ghost use Rattle.gather.specs.Lent.{snoops_on, takes_on, clears_on, scans_on};
 ghost use Rattle.gather.specs.Raw.{unmade, held_in};
 
 use advance::{onward, stepped};
-use rules::{Answered, Collector, RecordNumber, Sizes};
+use rules::{Answered, Collector, LinkNumber, RecordNumber, Sizes};
 use tables::flag::set_flag;
 use tables::mark::{mark_standing, set_mark};
 use tables::place::{log_place, record_place, register_place};
@@ -56,6 +56,17 @@ fn made_by(candidates: &mut [u64], makers: &mut [u16], w: u16)
     clear_maker(makers, w);
 }
 
+// One list, copied into another of its length. A loop: `copy_from_slice` on lists that are lent becomes the C library's `memmove`, and the library for C calls nothing but
+// `memcpy` and `memset` (docs/LIBRARY.md).
+fn copy(to: &mut [u16], from: &[u16])
+    requires { length to.old ≡ length from.now }
+    ensures { to.new ≡ from.now }
+{
+    for (i, n) in from.iter().enumerate() {
+        to[i] = *n;
+    }
+}
+
 // "Phase 2: that worker's log is added at the end of the history and emptied; every record of which it is maker becomes a candidate with maker 0."
 pub fn takes(
     s: Sizes,
@@ -78,7 +89,7 @@ pub fn takes(
     let from = log_place(s, w);
     let log = &mut logs[from..from + usize::from(n) * 2];
     let end = usize::from(m) * 2;
-    history[end..end + log.len()].copy_from_slice(log);
+    copy(&mut history[end..end + log.len()], log);
     log.fill(0);
     lengths[worker] = 0;
     lengths[last] = m + n;
@@ -99,7 +110,8 @@ pub fn clears(
 {
     let entries = lengths[usize::from(s.w)];
     let [link, _] = history.as_chunks::<2>().0[usize::from(c.position)];
-    set_mark(changed, usize::from(link), false);
+    let l = LinkNumber(link);
+    set_mark(changed, usize::from(l.0), false);
     stepped(onward(c, entries, entries))
 }
 

@@ -31,13 +31,16 @@ pub struct Done<E> {
 }
 
 pub trait Parts {
-    ghost use Rattle.std.specs.Prelude.{ℕ, Bool, List};
+    ghost use Rattle.std.specs.Prelude.{ℕ, Bool, List, Option};
 
     // How a trace ends.
     type Ending: Copy;
 
     // The text of a part, which is the last one or not.
     ghost lines: { Self → (bytes : List ℕ) → (last : Bool) → List ℕ };
+
+    // How a part is taken: how the trace has ended behind it, the place of the first byte that is still needed, and what is kept for the next part.
+    ghost takes: { Self → (bytes : List ℕ) → (last : Bool) → Option Self.Ending → (next : ℕ) → Self → Type 0 };
 
     // The text of the last line, where the part in which the trace ends so begins `base` bytes behind the trace's beginning.
     ghost last_line: { Self.Ending → (base : ℕ) → List ℕ };
@@ -59,6 +62,7 @@ pub trait Parts {
         ensures ready { ready self.new }
         ensures size { result.size ≤ length text.new }
         ensures lines { take result.size text.new ≡ lines self.old bytes.now last }
+        ensures takes { takes self.old bytes.now last result.ending result.next self.new }
         ensures ends { IfSome result.ending ends }
         ensures waits { IfNone result.ending ((result.next ≤ length bytes.now) × (length bytes.now < result.next + 13)) };
 
@@ -98,7 +102,7 @@ fn read_again<R: Read>(stream: &mut R, buf: &mut [u8]) -> io::Result<usize>
 }
 
 // Reads once, behind the `left` bytes that are left, and answers how many bytes there are now: no more where the input has ended.
-fn read_behind<R: Read>(stream: &mut R, input: &mut [u8], left: usize) -> io::Result<usize>
+pub fn read_behind<R: Read>(stream: &mut R, input: &mut [u8], left: usize) -> io::Result<usize>
     requires { left ≤ length input.old }
     ensures read { IfOk result (λ n. Reads input.old left n input.new) }
     ensures failed { OnErr result (Reads input.old left left input.new) }
@@ -108,7 +112,7 @@ fn read_behind<R: Read>(stream: &mut R, input: &mut [u8], left: usize) -> io::Re
 }
 
 // The bytes from one place up to another move to the front.
-fn keep_rest(input: &mut [u8], from: usize, to: usize)
+pub fn keep_rest(input: &mut [u8], from: usize, to: usize)
     requires from_le_to { from ≤ to }
     requires to_in_bounds { to ≤ length input.old }
     ensures { Keeps input.old from to input.new }

@@ -266,7 +266,9 @@ fn numbers_fit(s: Sizes, t: ReadTables) -> bool
         & at_most(t.snoops, 1)
 }
 
-// Every clause on links: the entries of logs and history, what stands past them, the changed marks and the counts.
+// Every clause on links: the entries of logs and history, what stands past them, the changed marks and the counts. Its arrays take some 66 KiB of the stack: never laid into
+// another, so that a call which is refused before has them not.
+#[inline(never)]
 fn links_fit(s: Sizes, t: ReadTables, c: Collector) -> bool
     requires { Fits s (seen t) c }
     ensures { result ≡ links_fit s (seen t.entry) c }
@@ -281,12 +283,12 @@ fn links_fit(s: Sizes, t: ReadTables, c: Collector) -> bool
         seen: [0; 8208],
         last: [0; 8208],
     };
+    let mut tally = [0; 8320];
     notes.enter(s, &t.history[..to], 131072);
     notes.take_values(t.values, s.n);
     let padded = notes.enter_logs(s, t.logs, t.lengths);
     notes.enter(s, &t.history[to..from], 131072);
     notes.enter(s, &t.history[from..end], 131073);
-    let mut tally = [0; 8320];
     tally_links(&mut tally, &notes.last, links);
     notes.ok
         & padded
@@ -296,13 +298,16 @@ fn links_fit(s: Sizes, t: ReadTables, c: Collector) -> bool
         & counts_match(t.counts, &tally)
 }
 
-// The whole check, on tables of exact lengths.
+// The whole check, on tables of exact lengths. Laid into each call, as `pool::check` is, so that the tables are handed on once, to `links_fit`.
+#[inline(always)]
 pub fn inspect(s: Sizes, t: ReadTables, c: Collector) -> bool
     requires { (in_range s ≡ true) × Exact s (seen t) }
     ensures { result ≡ inspected s (seen t.entry) c }
 {
-    let fits = at_most(t.lengths, link_count(s))
-        & phase_fits(s, c, t.lengths[usize::from(s.w)])
-        & numbers_fit(s, t);
-    fits && links_fit(s, t, c)
+    let fits = at_most(t.lengths, link_count(s)) & phase_fits(s, c, t.lengths[usize::from(s.w)]);
+    // What costs little to refuse is refused before whole tables are looked through.
+    if !fits {
+        return false;
+    }
+    numbers_fit(s, t) && links_fit(s, t, c)
 }

@@ -246,7 +246,7 @@ module _ (bytes : List ℕ) (place : ℕ) where
       let on : place + (3 + payload_at bytes place) ≡ place + 3 + payload_at bytes place = omega arith in
       sym
       (ap (λ (n : ℕ). Ok (sizes_read s n)) on
-      ∙ ap (placed place) (sizes_read_lem bytes place at_first refl says.tag says.sizes says.range ∙ payload_whole head says.whole)
+      ∙ ap (placed place) (sizes_read_lem bytes place at_first false refl says.tag says.sizes (sym says.range) refl ∙ payload_whole head says.whole)
       ∙ read_stage bytes place at_first First refl)
     where
       head : Headed bytes place at_first (payload_at bytes place)

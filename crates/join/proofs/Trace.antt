@@ -7,10 +7,10 @@
 -- Assumes nothing.
 use Prim.Native.Nat.{ℕ, suc, ◌+◌, ◌-◌, ◌≤◌, ◌<◌}
 use mathlib.Core.Path.{◌≡◌, refl, sym, ap, ◌∙◌, subst}
-use mathlib.Core.Bool.{Bool, cond}
+use mathlib.Core.Bool.{Bool, false, cond, not}
 use mathlib.Core.List.{List, [], ◌∷◌, ◌++◌, flatten, append_assoc, append-nil}
 use native.Mathlib.Omega.{arith}
-use borrow.Author.Tests.{le-ltb}
+use borrow.Author.Tests.{le-ltb, eq-eqb}
 use lib.Dec.{eqb}
 use lib.ListN.{length, take, length-append}
 use lib.Seq.{take-append_seam, drop-append_seam}
@@ -60,7 +60,7 @@ module _ (before behind : List ℕ) (n : ℕ) where
   end_there =
       sym
       (ap (λ (m : ℕ). Ok (end_read n m)) (let e : place + 7 ≡ place + 3 + 4 = omega arith in e)
-      ∙ ap (placed place) (end_read_lem bytes place (record { stage = Events; step = n }) long end_tag_there (sym number)
+      ∙ ap (placed place) (end_read_lem bytes place (record { stage = Events; step = n }) false long (λ e. omega (arith, end_tag_there, e)) (sym number) end_tag_there (ap not (eq-eqb n n refl))
       ∙ payload_whole head (omega (arith, alike.inside)))
       ∙ read_stage bytes place (record { stage = Events; step = n }) Events refl)
     where

@@ -292,7 +292,7 @@ fn begin_first(x: Progress, bytes: &[u8], last: bool) -> ControlFlow<Part, (Prog
 }
 
 // How the trace stands behind the events of a part, from a place on. `x` is what is kept then, and `events` is how many there were.
-fn end_part(
+pub fn end_part(
     used: &[u64],
     x: Progress,
     bytes: &[u8],
@@ -326,7 +326,7 @@ fn end_part(
 
 // How a part begins, which begins where the one before left off: with the events from a place on, and what is kept of the pool that they are done on; or no event is
 // done, and the part is all that there is to answer.
-fn begin_part(
+pub fn begin_part(
     used: &[u64],
     x: Progress,
     bytes: &[u8],

@@ -20,10 +20,11 @@ struct Report<'a> {
 }
 
 impl Parts for Report<'_> {
-    ghost use Rattle.std.specs.Prelude.{◌≡◌, length};
+    ghost use Rattle.std.specs.Prelude.{◌≡◌, ◌+◌, length};
     ghost use Rattle.tables.specs.Lent.{contents};
     ghost use Rattle.parts.specs.Part.{moved_ending};
-    ghost use Rattle.parts.specs.Begun.{whole_work};
+    ghost use Rattle.parts.specs.Arrays.{left_in};
+    ghost use Rattle.parts.specs.Begun.{whole_part, whole_work};
     ghost use Rattle.parts.specs.Printed.{ending_printed};
     ghost use Rattle.parts.specs.Buffer.{PlaceFits};
     ghost use Rattle.reports.specs.Told.{told_work};
@@ -34,6 +35,12 @@ impl Parts for Report<'_> {
 
     ghost lines = { λ x bytes last.
         let y = x.reporting in cycles_printed y.cycles (told_work y.tally (whole_work y.progress (contents x.tables) last bytes)).cycles };
+
+    ghost takes = { λ x bytes last ending next y.
+        let taken = whole_part x.reporting.progress (contents x.tables) last bytes in
+        let told = told_work x.reporting.tally (whole_work x.reporting.progress (contents x.tables) last bytes) in
+        (taken.stood ≡ record { stand = ending; next = next; reader = y.reporting.progress.reader }) × (left_in y.reporting.progress (contents y.tables) ≡ taken.left)
+        × (y.reporting.tally ≡ told.tally) × (y.reporting.cycles ≡ x.reporting.cycles + length told.cycles) };
 
     ghost last_line = { λ ending base. ending_printed (moved_ending base ending) };
 

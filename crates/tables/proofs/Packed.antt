@@ -4,6 +4,7 @@
 --     length-marks_in, same_mark      the marks that words hold: how many, and each of them
 --     mark_stands                    a mark of the pool, in its word
 --     marked-written, record_written, mark_record_lem     a mark that is another, of marks and in their words
+--     marked-marks, length_marked    the same, from the words
 --     word_marked                    a word in which one bit is another
 --     all_off                        no mark is on
 -- Assumes nothing.
@@ -15,13 +16,13 @@ use mathlib.Core.Logic.{⊎_elim}
 use native.Mathlib.Omega.{arith}
 use native.Mathlib.Nat.{not-suc-le-zero, mod-lt, zero-lt-suc, div-add-mod'}
 use lib.ListN.{length, get_or, take, drop, set, replicate, length-set, length-replicate, get_or-eq_default}
-use lib.Seq.{length-take-le, get_or-take, get_or-drop, take_at, drop_at, set-append_left}
+use lib.Seq.{length-take-le, get_or-take, get_or-drop, take_at, drop_at, set-append_left, take-set-lt}
 use Rattle.rules.specs.Pool.{with_record}
 use Rattle.rules.specs.Sound.{Each}
 use Rattle.laws.proofs.Lists.{Each-set}
 use Rattle.laws.proofs.Tests.{below_or_not}
 use Rattle.tables.specs.Bits.{digits, words_by, bits_of, word_count, marks_in, words_of, mark_at, marked, mark_record, Packed}
-use Rattle.tables.proofs.Words.{off_behind, length-bits, bits-set, words_back, length_words, words_low, same_words, bits_padded, words_off}
+use Rattle.tables.proofs.Words.{off_behind, length-bits, bits-set, words_back, bits_back, length_words, words_low, same_words, bits_padded, words_off}
 
 all_false : (xs : List Bool) → Each (λ b. b ≡ false) xs → (i : ℕ) → get_or xs i false ≡ false
 all_false [] h i = refl
@@ -111,6 +112,19 @@ mark_record_lem n words a b e packed h =
 pub mark_place : (words : List ℕ) (a place : ℕ) (b : Bool) → 1 ≤ a → place ≡ a - 1 → marked words place b ≡ mark_record words a b
 mark_place words zero place b h e = absurd (not-suc-le-zero h)
 mark_place words (suc i) place b h e = ap (λ (k : ℕ). marked words k b) (let same : place ≡ i = omega arith in same)
+
+-- ---- from the words
+
+pub length_marked : (words : List ℕ) (i : ℕ) (b : Bool) → length (marked words i b) ≡ length words
+unfolding marked
+length_marked words i b = length_words 64 (length words) (set (bits_of words) i b)
+
+pub bits-marked : (words : List ℕ) (i : ℕ) (b : Bool) → bits_of (marked words i b) ≡ set (bits_of words) i b
+unfolding marked
+bits-marked words i b = bits_back 64 (length words) (set (bits_of words) i b) (length-set (bits_of words) i b ∙ length-bits 64 words)
+
+pub marked-marks : (n : ℕ) (words : List ℕ) (i : ℕ) (b : Bool) → i < n → marks_in n (marked words i b) ≡ set (marks_in n words) i b
+marked-marks n words i b h = ap (take n) (bits-marked words i b) ∙ take-set-lt n (bits_of words) i b h
 
 -- one bit of a word is another
 pub word_marked : (words : List ℕ) (i x : ℕ) (b : Bool) → Each (λ y. y < 2 ^ 64) words → x < 2 ^ 64 → i < length words * 64

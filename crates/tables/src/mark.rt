@@ -80,6 +80,10 @@ pub fn count_off(words: &[u64], n: u16) -> u16
 {
     let mut off = n;
     for word in words {
+        // However many words there are, those behind the last free one are not looked at.
+        if off == 0 {
+            return 0;
+        }
         off = off.saturating_sub(word.count_ones() as u16);
     }
     off

@@ -1,21 +1,20 @@
 -- A text at a place of a buffer.
+--     sets_append      two texts are stored one after the other
 --     written_both     a text, and then another right behind it
 --     written_same     the buffer is as long as before
---     mid_is           bytes that are copied to a place
+--     written_text     any text
 --     written_front    the bytes up to the end of the text
 -- Assumes nothing.
 use Prim.Native.Nat.{ℕ, suc, ◌+◌, ◌≤◌}
-use mathlib.Core.Path.{◌≡◌, sym, ap, ◌∙◌}
-use mathlib.Core.List.{List, [], ◌∷◌, ◌++◌, append_assoc}
+use mathlib.Core.Path.{◌≡◌, refl, ap, ◌∙◌}
+use mathlib.Core.List.{List, [], ◌∷◌, ◌++◌}
 use native.Mathlib.Omega.{arith}
 use native.Mathlib.Nat.{add-zero}
-use borrow.Rule.Slice.PartMut.{put_mid}
 use lib.ListN.{length, set, take, drop, length-append}
 use lib.Seq.{sets, length-sets, sets-eq, take_at, length-take-le}
-use Rattle.std.proofs.lemmas.List.{drop-drop}
 use Rattle.text.specs.Text.{Written}
 
-sets_append : (a b l : List ℕ) (i : ℕ) → sets l i (a ++ b) ≡ sets (sets l i a) (i + length a) b
+pub sets_append : (a b l : List ℕ) (i : ℕ) → sets l i (a ++ b) ≡ sets (sets l i a) (i + length a) b
 sets_append [] b l i = rw (add-zero i)
 sets_append (x ∷ a) b l i =
     sets_append a b (set l i x) (suc i)
@@ -31,11 +30,8 @@ written_both {l} {a = a} {b = b} {at = at} h k =
 pub written_same : {l m text : List ℕ} {at x : ℕ} → Written l at text x m → length m ≡ length l
 written_same {l} {text = text} {at = at} h = rw h.bytes (length-sets l at text)
 
-pub mid_is : (before text : List ℕ) (at size : ℕ) → size ≡ length text → at + length text ≤ length before → put_mid at size before text ≡ sets before at text
-mid_is before text at size all room =
-    (λ j. take at before ++ (text ++ (drop-drop size at before ∙ ap (λ (n : ℕ). drop (at + n) before) all) j))
-    ∙ sym (append_assoc (take at before) text (drop (at + length text) before))
-    ∙ sym (sets-eq text before at room)
+pub written_text : (l : List ℕ) (i : ℕ) (text : List ℕ) → Written l i text (i + length text) (sets l i text)
+written_text l i text = record { place = refl; bytes = refl }
 
 pub written_front : {l m text : List ℕ} {at x : ℕ} → Written l at text x m → at + length text ≤ length l → take x m ≡ take at l ++ text
 written_front {l} {text = text} {at = at} {x = x} h room =

@@ -55,12 +55,14 @@ pub fn put_refused(out: &mut [u8], number: u16, place: u64) -> usize
     w.len()
 }
 
-// Bytes, from the place `at` on; answers the place behind them.
+// Bytes, from the place `at` on; answers the place behind them. A loop: `copy_from_slice` on slices that are lent becomes the C library's `memmove`, and the library for C,
+// which joins parts by it, calls nothing but `memcpy` and `memset` (docs/LIBRARY.md).
 pub fn put_bytes(out: &mut [u8], at: usize, bytes: &[u8]) -> usize
     requires { at + length bytes.now ≤ length out.old }
     ensures { Written out.old at bytes.now result out.new }
 {
-    let end = at + bytes.len();
-    out[at..end].copy_from_slice(bytes);
-    end
+    for (i, byte) in bytes.iter().enumerate() {
+        out[at + i] = *byte;
+    }
+    at + bytes.len()
 }

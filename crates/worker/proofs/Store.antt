@@ -5,7 +5,7 @@
 --     stored, posted     the events
 -- Assumes nothing.
 use Prim.Native.Nat.{ℕ, ◌+◌, ◌*◌, ◌≤◌, ◌<◌}
-use mathlib.Core.Path.{◌≡◌, refl, sym, ap, ◌∙◌}
+use mathlib.Core.Path.{◌≡◌, refl, sym, ap, ◌∙◌, subst}
 use mathlib.Core.Bool.{Bool, true, false, cond, not, ◌&&◌}
 use mathlib.Core.List.{List, [], ◌∷◌, ◌++◌}
 use native.Mathlib.Omega.{arith}
@@ -24,6 +24,7 @@ use Rattle.rules.specs.Pool.{Entry, Pool, with_record, value_at, register_at, sn
 use Rattle.rules.specs.Worker.{added, logged, snooped, link_takes, stores, posts}
 use Rattle.rules.specs.Outcome.{has_worker, has_register, has_link, has_entry, refusals, does, outcome}
 use Rattle.laws.proofs.Change.{logged_keeps, stored_has}
+use Rattle.laws.proofs.Number.{board_inside}
 use Rattle.laws.proofs.Refusals.{has_numbers, numbers_there, entry_there}
 use Rattle.soundness.proofs.NoFullLog.{no_log_is_full}
 use Rattle.tables.specs.Tables.{Tables, put_held, put_values, put_changed, put_logs, put_lengths}
@@ -178,14 +179,14 @@ module _ {s : Sizes} {t : Tables} {c : Collector} (known : Known s t c) where
       inside
 
   pub posted : (w e r : ℕ) → (has_worker s w && has_register s r && has_entry s e) ≡ true
-      → (l : LinkNumber) → l ≡ board_number s e → l.0 < links s
+      → (l : LinkNumber) → l ≡ board_number s e
       → (old : RecordNumber) (after : Tables) → old ≡ record_number (get_or t.values l.0 0) → after ≡ link_taken s w l r t
       → event_on s t c (Post w e r) ≡ record { answer = Stored old; collector = c; tables = after }
   unfolding refusals does posts
-  posted w e r here l same inside =
+  posted w e r here l same =
       let at = entry_there s w r e here in
       link_taken_lem (Post w e r) w l r
       (unrefused known (Post w e r) (has_worker s w) (has_register s r) (has_entry s e) refl here tt ∙ ap (λ (m : LinkNumber). link_takes w m r p) (sym same))
       at.0.worker
       at.0.register
-      inside
+      (subst (λ m. m.0 < links s) (sym same) (board_inside s e at.1))

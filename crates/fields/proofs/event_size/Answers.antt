@@ -6,6 +6,11 @@ use Rattle.fields.proofs.Tags.{tag_least, tag_most}
 use Rattle.fields.proofs.Event.{no_event_lem, event_stands}
 use Rattle.fields.proofs.event_size.Goals as goal
 
+pub returns-in_err-left : goal.returns-in_err-left
+returns-in_err-left c =
+    let at = c.args in
+    rw c.from_residual.ensures (no_event_lem at.bytes.now at.place at.step (λ says. omega (arith, says.begins, c.in_err-left.ensures)))
+
 pub returns-then-left-lt7 : goal.returns-then-left-lt7
 returns-then-left-lt7 c =
     let at = c.args in
@@ -19,7 +24,7 @@ returns-then-tag-eq-SIZES_TAG c =
 pub returns-in_err-payload : goal.returns-in_err-payload
 returns-in_err-payload c =
     let at = c.args in
-    rw c.from_residual.ensures (no_event_lem at.bytes.now at.place at.step (λ says. says.known c.in_err-payload.ensures))
+    rw c.from_residual-in_err-payload.ensures (no_event_lem at.bytes.now at.place at.step (λ says. says.known c.in_err-payload.ensures))
 
 pub overflow_add-payload : goal.overflow_add-payload
 overflow_add-payload c =

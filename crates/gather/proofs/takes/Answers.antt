@@ -26,8 +26,8 @@ slice_bounds-log-end c =
     let ns = lengths_here c.requires.1 c.requires.2 _ _ c.from-worker.ensures c.from-last.ensures in
     omega (arith, part_here c.requires.1 c.requires.2 _ _ c.log_place-from.ensures (c.from.ensures ∙ ns.0))
 
-pub slice_bounds-copy_from_slice-end : goal.slice_bounds-copy_from_slice-end
-slice_bounds-copy_from_slice-end c =
+pub slice_bounds-copy-end : goal.slice_bounds-copy-end
+slice_bounds-copy-end c =
     let ns = lengths_here c.requires.1 c.requires.2 _ _ c.from-worker.ensures c.from-last.ensures in
     let part = part_here c.requires.1 c.requires.2 _ _ c.log_place-from.ensures (c.from.ensures ∙ ns.0) in
     omega (
@@ -70,7 +70,7 @@ returns c t known e =
       makers = c.made_by.ensures.0;
       logs = part_cleared logs from to _ _ begin part.0 part.1 emptied;
       history =
-          part_copied logs from to _ _ begin part.0 part.1 c.args.history.now c.copy_from_slice.ensures.after (omega (arith, long))
+          part_copied logs from to _ _ begin part.0 part.1 c.args.history.now c.copy.ensures (omega (arith, long))
           (ap (λ (m : ℕ). m * 2) (c.from-end.ensures ∙ ns.1));
       lengths = λ j. set (set c.args.lengths.now (c.from-worker.ensures j) 0) (c.from-last.ensures j) (ns.1 j + ns.0 j);
     })

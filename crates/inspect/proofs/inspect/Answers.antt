@@ -12,25 +12,34 @@ use Rattle.clauses.specs.IsSound.{every}
 use Rattle.clauses.specs.Inspected.{phase_fits, numbers_fit, links_fit, inspected}
 use Rattle.inspect.proofs.Tested.{every_each}
 use Rattle.inspect.proofs.inspect.Goals as goal
-use Rattle.inspect.proofs.inspect.Goals.{After-numbers_fit}
+use Rattle.inspect.proofs.inspect.Goals.{After-phase_fits}
 
-module _ (c : After-numbers_fit) where
+module _ (c : After-phase_fits) where
   abbrev low_lengths : Bool
   low_lengths = every (λ n. leb n (links c.args.s)) c.args.t.lengths.now
 
   abbrev collector_fits : Bool
   collector_fits = phase_fits c.args.s c.args.c (get_or c.args.t.lengths.now c.args.s.w 0)
 
+  abbrev numbers : Bool
+  numbers = numbers_fit c.args.s (seen c.args.t)
+
   abbrev rest : Bool
   rest = links_fit c.args.s (seen c.args.t) c.args.c
 
-  tested : (c.at_most.result && c.phase_fits.result && c.numbers_fit.result) ≡ (low_lengths && collector_fits && numbers_fit c.args.s (seen c.args.t))
-  tested = simp (c.at_most.ensures, c.link_count.ensures.0, c.phase_fits.ensures, c.from.ensures, c.numbers_fit.ensures)
+  tested : (c.at_most.result && c.phase_fits.result) ≡ (low_lengths && collector_fits)
+  tested = simp (c.at_most.ensures, c.link_count.ensures.0, c.phase_fits.ensures, c.from.ensures)
+
+pub returns-then-not-fits : goal.returns-then-not-fits
+unfolding inspected
+returns-then-not-fits c =
+    let at = (goal.at.returns-then-not-fits c).After-phase_fits in
+    ap (λ b. b && numbers at && rest at) (sym c.if-not-fits.true ∙ tested at)
 
 pub links_fit-requires : goal.links_fit-requires
 links_fit-requires c =
-    let at = (goal.at.links_fit-requires c).After-numbers_fit in
-    let first = and_left (low_lengths at && collector_fits at) _ (sym (tested at) ∙ c.if-fits.true) in
+    let at = (goal.at.links_fit-requires c).After-phase_fits in
+    let first = sym (tested at) ∙ c.if-not-fits.false in
     let most = links c.args.s in
     record {
       sizes = c.requires.0;
@@ -39,14 +48,14 @@ links_fit-requires c =
       phase = and_right (low_lengths at) _ first;
     }
 
-pub returns-then-fits : goal.returns-then-fits
+pub returns-then-numbers_fit : goal.returns-then-numbers_fit
 unfolding inspected
-returns-then-fits c =
-    let at = (goal.at.returns-then-fits c).After-numbers_fit in
-    c.links_fit.ensures ∙ ap (λ b. b && rest at) (sym c.if-fits.true ∙ tested at)
+returns-then-numbers_fit c =
+    let at = (goal.at.returns-then-numbers_fit c).After-phase_fits in
+    c.links_fit.ensures ∙ (λ j. (sym c.if-not-fits.false ∙ tested at) j && (sym c.if-numbers_fit.true ∙ c.numbers_fit.ensures) j && rest at)
 
-pub returns-else-fits : goal.returns-else-fits
+pub returns-else-numbers_fit : goal.returns-else-numbers_fit
 unfolding inspected
-returns-else-fits c =
-    let at = (goal.at.returns-else-fits c).After-numbers_fit in
-    c.if-fits.false ∙ ap (λ b. b && rest at) (sym c.if-fits.false ∙ tested at)
+returns-else-numbers_fit c =
+    let at = (goal.at.returns-else-numbers_fit c).After-phase_fits in
+    c.if-numbers_fit.false ∙ (λ j. (sym c.if-not-fits.false ∙ tested at) j && (sym c.if-numbers_fit.false ∙ c.numbers_fit.ensures) j && rest at)

@@ -23,7 +23,7 @@ pub returns : goal.returns
 returns c t k known =
     let at = c.args in
     let takes = c.link_takes-old in
-    posted known at.w at.e at.r (there (goal.at.returns c).In_default) c.board_number-l.result (c.board_number-l.ensures.0 ∙ ap (board_number at.s) c.from.ensures) c.board_number-l.ensures.1
+    posted known at.w at.e at.r (there (goal.at.returns c).In_default) c.board_number-l.result (c.board_number-l.ensures.0 ∙ ap (board_number at.s) c.from.ensures)
     takes.result
     (stores_on takes.new.held takes.new.values takes.new.changed at.registers.now at.snoops.now takes.new.logs takes.new.lengths t)
     takes.ensures.0
