@@ -4,13 +4,15 @@
 --     StaysSo             no event is done: a field is waited for, or the trace has ended
 --     BegunAs             one of the two
 --     whole_part, whole_work     what the part is to answer and leave, and its events
+--     TakenSo             the part is taken, whatever is printed for it
 -- Assumes nothing.
-use Rattle.std.specs.Prelude.{ℕ, ◌≡◌, Bool, List, []}
+use Rattle.std.specs.Prelude.{ℕ, ◌≡◌, Bool, List, [], Option}
 use Rattle.std.specs.declared.ops.ControlFlow.{ControlFlow}
 use Rattle.std.specs.declared.ops.ControlFlow.TheVariants.{Continue, Break}
 use Rattle.fields.specs.declared.Stage.TheVariants.{Events}
 use Rattle.tables.specs.Tables.{Tables}
 use Rattle.tables.specs.Lie.{pool_of}
+use Rattle.trace.specs.Replay.{Ending}
 use Rattle.parts.specs.declared.Progress.{Progress}
 use Rattle.parts.specs.declared.Part.{Part}
 use Rattle.parts.specs.Part.{Taken, rest_taken, part_taken}
@@ -27,6 +29,11 @@ whole_part x t last bytes = part_taken is_small last bytes x.reader (left_in x t
 -- and its events
 abbrev pub whole_work : Progress → Tables → Bool → List ℕ → Work
 whole_work x t last bytes = part_work is_small last bytes x.reader (left_in x t)
+
+-- the part is taken: how the trace stands behind it, the place of the first byte that is still needed, and what is kept for the next part
+abbrev pub TakenSo : Progress → Tables → List ℕ → Bool → Option Ending → ℕ → Progress → Tables → Type 0
+TakenSo x t bytes last stand next y after =
+    ((whole_part x t last bytes).stood ≡ record { stand = stand; next = next; reader = y.reader }) × (left_in y after ≡ (whole_part x t last bytes).left)
 
 pub record GoesOn (x : Progress) (t : Tables) (last : Bool) (bytes : List ℕ) (y : Progress) (place : ℕ) : Type 0 where
   pub holds : Holds y t

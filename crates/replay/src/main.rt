@@ -21,8 +21,8 @@ impl Parts for Replay<'_> {
     ghost use Rattle.std.specs.Prelude.{◌≡◌, length};
     ghost use Rattle.tables.specs.Lent.{contents};
     ghost use Rattle.parts.specs.Part.{moved_ending};
-    ghost use Rattle.parts.specs.Arrays.{Set, left_in};
-    ghost use Rattle.parts.specs.Begun.{whole_part};
+    ghost use Rattle.parts.specs.Arrays.{Set};
+    ghost use Rattle.parts.specs.Begun.{whole_part, TakenSo};
     ghost use Rattle.parts.specs.Printed.{lines_printed, ending_printed};
     ghost use Rattle.parts.specs.Buffer.{PlaceFits};
 
@@ -30,9 +30,7 @@ impl Parts for Replay<'_> {
 
     ghost lines = { λ x bytes last. lines_printed (whole_part x.progress (contents x.tables) last bytes).lines };
 
-    ghost takes = { λ x bytes last ending next y.
-        let taken = whole_part x.progress (contents x.tables) last bytes in
-        (taken.stood ≡ record { stand = ending; next = next; reader = y.progress.reader }) × (left_in y.progress (contents y.tables) ≡ taken.left) };
+    ghost takes = { λ x bytes last ending next y. TakenSo x.progress (contents x.tables) bytes last ending next y.progress (contents y.tables) };
 
     ghost last_line = { λ ending base. ending_printed (moved_ending base ending) };
 

@@ -23,8 +23,7 @@ impl Parts for Report<'_> {
     ghost use Rattle.std.specs.Prelude.{◌≡◌, ◌+◌, length};
     ghost use Rattle.tables.specs.Lent.{contents};
     ghost use Rattle.parts.specs.Part.{moved_ending};
-    ghost use Rattle.parts.specs.Arrays.{left_in};
-    ghost use Rattle.parts.specs.Begun.{whole_part, whole_work};
+    ghost use Rattle.parts.specs.Begun.{whole_work, TakenSo};
     ghost use Rattle.parts.specs.Printed.{ending_printed};
     ghost use Rattle.parts.specs.Buffer.{PlaceFits};
     ghost use Rattle.reports.specs.Told.{told_work};
@@ -37,10 +36,11 @@ impl Parts for Report<'_> {
         let y = x.reporting in cycles_printed y.cycles (told_work y.tally (whole_work y.progress (contents x.tables) last bytes)).cycles };
 
     ghost takes = { λ x bytes last ending next y.
-        let taken = whole_part x.reporting.progress (contents x.tables) last bytes in
-        let told = told_work x.reporting.tally (whole_work x.reporting.progress (contents x.tables) last bytes) in
-        (taken.stood ≡ record { stand = ending; next = next; reader = y.reporting.progress.reader }) × (left_in y.reporting.progress (contents y.tables) ≡ taken.left)
-        × (y.reporting.tally ≡ told.tally) × (y.reporting.cycles ≡ x.reporting.cycles + length told.cycles) };
+        let before = x.reporting in
+        let after = y.reporting in
+        let told = told_work before.tally (whole_work before.progress (contents x.tables) last bytes) in
+        TakenSo before.progress (contents x.tables) bytes last ending next after.progress (contents y.tables)
+        × (after.tally ≡ told.tally) × (after.cycles ≡ before.cycles + length told.cycles) };
 
     ghost last_line = { λ ending base. ending_printed (moved_ending base ending) };
 
